@@ -1,0 +1,6 @@
+pub mod Bodies
+pub mod Digits
+pub mod Floats
+pub mod Longest
+pub mod Turns
+pub mod Values

@@ -1,0 +1,22 @@
+//! Texts, names and qualified names of a Python project, shared between threads, and numbers for qualified names.
+//!
+//! * `texts`: a `Text`, UTF-8 that is copied at the cost of a counter;
+//! * `identifiers`: a `Name`, a text that is an identifier, and `Name::read`, the test of an identifier;
+//! * `qualified`: a `QName`, a list of names;
+//! * `numbering`: `Names`, which numbers qualified names from 0 on;
+//! * `faults`: what these answer where they fail.
+#![tactic(auto)]
+
+mod faults;
+mod identifiers;
+mod numbering;
+mod qualified;
+#[cfg(test)]
+mod tests;
+mod texts;
+
+pub use faults::{Memory, NameFault};
+pub use identifiers::{Name, is_identifier_continue, is_identifier_start};
+pub use numbering::Names;
+pub use qualified::QName;
+pub use texts::Text;

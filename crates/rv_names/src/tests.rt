@@ -1,0 +1,210 @@
+//! What no clause says: outside vectors of identifiers, printed text, that each call can succeed, that comparisons can be
+//! derived above, and that threads can share the values.
+
+use super::*;
+use std::alloc::{AllocError, Global};
+use std::process::Abort;
+use std::test::Fail;
+use std::thread;
+
+/// A key as the crates above have them.
+#[derive(Drop, Hash, PartialEq, Eq, PartialOrd, Ord)]
+struct Key {
+    module: QName,
+    place: Place,
+}
+
+#[derive(Drop, Hash, PartialEq, Eq, PartialOrd, Ord)]
+enum Place {
+    Top,
+    Named(Name),
+    Noted(Text),
+}
+
+/// The names between the dots of a text.
+fn parts_of(alloc: Global, text: &str) -> Result<Vec<Name>, NameFault> {
+    let mut parts = Vec::new(alloc);
+    for part in text.split('.') {
+        let name = Name::read(alloc, part)?;
+        parts.push(name).map_err(AllocError::from)?;
+    }
+    Ok(parts)
+}
+
+fn qualified(alloc: Global, text: &str) -> Result<QName, NameFault> {
+    Ok(QName::new(parts_of(alloc, text)?))
+}
+
+fn make_key(alloc: Global, module: &str, place: Place) -> Result<Key, NameFault> {
+    let module = qualified(alloc, module)?;
+    Ok(Key { module, place })
+}
+
+fn is_name(alloc: Global, text: &str) -> Result<bool, Memory> {
+    match Name::read(alloc, text) {
+        Ok(_) => Ok(true),
+        Err(NameFault::NotIdent) => Ok(false),
+        Err(NameFault::Memory) => Err(Memory),
+    }
+}
+
+/// The items rise strictly, by each comparison.
+fn rises<T: Ord>(rt: &impl Abort, items: &[T]) {
+    for (i, x) in items.iter().enumerate() {
+        for (j, y) in items.iter().enumerate() {
+            assert!(rt; x.cmp(y) == i.cmp(&j), "{i} and {j}");
+            assert!(rt; (x < y) == (i < j), "{i} and {j}");
+            assert!(rt; (x == y) == (i == j), "{i} and {j}");
+        }
+    }
+}
+
+/// The answers are those of CPython 3.11 for `s.isidentifier()` and `unicodedata.normalize("NFKC", s) == s`.
+#[test]
+fn identifiers(rt: HostRuntime) {
+    let cases = [
+        ("", false),
+        ("x", true),
+        ("_", true),
+        ("_1", true),
+        ("1x", false),
+        ("if", true),
+        ("__init__", true),
+        ("a b", false),
+        ("a-b", false),
+        ("a.b", false),
+        (" a", false),
+        ("a\n", false),
+        ("$x", false),
+        ("café", true),
+        ("cafe\u{301}", false),
+        ("变量", true),
+        ("μ", true),
+        ("\u{b5}", false),
+        ("\u{aa}", false),
+        ("\u{fb01}x", false),
+        ("K\u{212a}", false),
+        ("\u{17f}", false),
+        ("\u{ff21}", false),
+        ("\u{1d400}", false),
+        ("\u{10400}", true),
+        ("\u{2118}", true),
+        ("\u{d4e}", true),
+        ("x\u{b2}", false),
+        ("a\u{b7}", true),
+        ("\u{b7}a", false),
+        ("a\u{663}", true),
+        ("\u{663}a", false),
+        ("\u{37a}", false),
+        ("\u{345}", false),
+        ("\u{e33}", false),
+        ("a\u{200b}", false),
+        ("\u{1f600}", false),
+    ];
+    for (text, accepted) in cases {
+        assert_eq!(rt; is_name(rt.alloc(), text), Ok(accepted), "{text:?}");
+    }
+    for (ch, starts, continues) in [
+        ('a', true, true),
+        ('_', true, true),
+        ('7', false, true),
+        ('-', false, false),
+    ] {
+        assert_eq!(rt; is_identifier_start(ch), starts);
+        assert_eq!(rt; is_identifier_continue(ch), continues);
+    }
+}
+
+#[test]
+fn texts(rt: HostRuntime) -> Result<(), Fail> {
+    let text = Text::read(rt.alloc(), "naïve")?;
+    let taken = Text::from_string(String::from_str(rt.alloc(), "naïve")?)?;
+    assert!(rt; text.copy()? == taken);
+    Ok(())
+}
+
+#[test]
+fn names(rt: HostRuntime) -> Result<(), Fail> {
+    let name = Name::read(rt.alloc(), "größe")?;
+    assert!(rt; name.copy()?.to_text()?.as_str() == name.as_str());
+    // By bytes: capitals, `_`, small letters, a name before one that it begins, and then all that is not ASCII.
+    let rising = parts_of(rt.alloc(), "A.Zebra._.a.aa.b.é.变")?;
+    rises(&rt, rising.as_slice());
+    Ok(())
+}
+
+#[test]
+fn qualified_names(rt: HostRuntime) -> Result<(), Fail> {
+    let alloc = rt.alloc();
+    let q = qualified(alloc, "pkg.mod.Class")?;
+    assert_eq!(rt; q.parts().len(), 3);
+    assert!(rt; q == q.copy()?);
+    let printed = format!(in alloc; "{q}|{q:?}")?;
+    assert_eq!(rt;
+        printed.as_str(),
+        "pkg.mod.Class|[\"pkg\", \"mod\", \"Class\"]"
+    );
+    // By the names: `ab` is above `a`, and so above `a.z`.
+    let mut rising = vec![in alloc; QName::new(Vec::new(alloc))]?;
+    for text in ["a", "a.b", "a.z", "ab", "ab.a", "b"] {
+        rising.push(qualified(alloc, text)?)?;
+    }
+    rises(&rt, rising.as_slice());
+    Ok(())
+}
+
+/// The number of a name, which is found again by either.
+fn number_of(
+    rt: &(impl Abort + Alloc<A = Global>),
+    names: &mut Names,
+    text: &str,
+) -> Result<u32, NameFault> {
+    let q = qualified(rt.alloc(), text)?;
+    assert!(rt; names.len() < 100);
+    let number = names.number(&q)?;
+    assert!(rt; names.find(&q) == Some(number) && names.name(number) == Some(&q));
+    Ok(number)
+}
+
+#[test]
+fn numbers(rt: HostRuntime) -> Result<(), Fail> {
+    let mut names = Names::new(rt.alloc());
+    for (text, number) in [
+        ("a", 0),
+        ("a.b", 1),
+        ("b", 2),
+        ("a.b", 1),
+        ("a", 0),
+        ("ab", 3),
+        ("b", 2),
+    ] {
+        assert_eq!(rt; number_of(&rt, &mut names, text)?, number);
+    }
+    assert!(rt; names.len() == 4 && !names.is_empty());
+    assert!(rt; names.name(4).is_none() && names.name(u32::MAX).is_none());
+    assert!(rt; names.find(&qualified(rt.alloc(), "a.b.c")?).is_none());
+    Ok(())
+}
+
+#[test]
+fn derived_keys(rt: HostRuntime) -> Result<(), Fail> {
+    let alloc = rt.alloc();
+    let mut keys = Vec::new(alloc);
+    for module in ["a.b", "ab"] {
+        keys.push(make_key(alloc, module, Place::Top)?)?;
+        keys.push(make_key(alloc, module, Place::Named(Name::read(alloc, "f")?))?)?;
+        keys.push(make_key(alloc, module, Place::Noted(Text::read(alloc, "")?))?)?;
+    }
+    rises(&rt, keys.as_slice());
+    Ok(())
+}
+
+#[test]
+fn threads_share(rt: HostRuntime) -> Result<(), Fail> {
+    let names = Names::new(rt.alloc());
+    let q = qualified(rt.alloc(), "a.b")?;
+    let (number, copy) = thread::join(&rt, || names.find(&q), || q.copy());
+    assert!(rt; number.is_none());
+    assert!(rt; copy? == q);
+    Ok(())
+}
