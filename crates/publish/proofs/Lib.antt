@@ -1,0 +1,4 @@
+pub mod Prefixes
+pub mod Chains
+pub mod Fronts
+pub mod Seats

@@ -1,0 +1,4 @@
+pub mod Boards
+pub mod Books
+pub mod Posts
+pub mod Readings

@@ -1,0 +1,3 @@
+mod fronts;
+mod one_thread;
+mod threads;
