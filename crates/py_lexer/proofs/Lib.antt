@@ -1,0 +1,9 @@
+pub mod Columns
+pub mod SourceLemmas
+pub mod WordLemmas
+pub mod Sizes
+pub mod PieceSizes
+pub mod Places
+pub mod Runs
+pub mod OneAnswer
+pub mod Dedents

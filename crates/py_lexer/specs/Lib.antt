@@ -1,0 +1,16 @@
+pub mod Chars
+pub mod Operators
+pub mod Keywords
+pub mod Form
+pub mod Faults
+pub mod Stack
+pub mod Source
+pub mod Front
+pub mod Words
+pub mod Strings
+pub mod Inside
+pub mod Margin
+pub mod Formatted
+pub mod Pieces
+pub mod Runs
+pub mod Laws

@@ -1,0 +1,38 @@
+//! The tokens of a Python text (Language Reference, chapter 2), or its one lexical fault.
+//!
+//! * `lexing`: `lex`, the tokens of a text;
+//! * `laws`: what holds of each text: it has one answer;
+//! * `token`: a `Token`, its `Kind` and its `Value`, and the `LexKind`s of faults;
+//! * `form`: a `Form`, the name of a form that isn't supported;
+//! * `source`: a text as it is read: its byte order mark and its line ends;
+//! * `state`, `stack`: what is open at a place of a text: brackets, blocks, a formatted string;
+//! * `piece`: what stands at the front of a text;
+//! * `margin`: blank lines and indentation;
+//! * `inside`: what stands inside a logical line, by its first character;
+//! * `words`, `keywords`, `operators`, `strings`, `fstring`: that, by class;
+//! * `chars`: the classes of characters.
+#![tactic(auto)]
+
+mod chars;
+mod form;
+mod fstring;
+mod inside;
+mod keywords;
+mod laws;
+mod lexing;
+mod margin;
+mod operators;
+mod piece;
+mod source;
+mod stack;
+mod state;
+mod strings;
+#[cfg(test)]
+mod tests;
+mod token;
+mod words;
+
+pub use form::Form;
+pub use laws::one_answer;
+pub use lexing::lex;
+pub use token::{Kind, LexError, LexKind, Token, Value};

@@ -1,0 +1,146 @@
+//! Operators and delimiters.
+
+ghost use Rattle.std.specs.Prelude.{◌≡◌};
+ghost use Rattle.py_lexer.specs.Operators.{sign, before_equal, doubled, doubled_before_equal, two_signs, three_signs, operator_or, longest_operator};
+
+use crate::token::Kind;
+
+/// An operator, and how many characters it has.
+#[derive(Clone, Copy, Debug, PartialEq, Eq)]
+pub struct Operator {
+    pub len: usize,
+    pub kind: Kind,
+}
+
+/// The operator of one character.
+fn sign(c: char) -> Option<Kind>
+    ensures { result ≡ sign c }
+{
+    match c {
+        '(' => Some(Kind::LeftParen),
+        ')' => Some(Kind::RightParen),
+        '[' => Some(Kind::LeftBracket),
+        ']' => Some(Kind::RightBracket),
+        '{' => Some(Kind::LeftBrace),
+        '}' => Some(Kind::RightBrace),
+        ',' => Some(Kind::Comma),
+        ':' => Some(Kind::Colon),
+        '.' => Some(Kind::Dot),
+        ';' => Some(Kind::Semicolon),
+        '=' => Some(Kind::Equal),
+        '+' => Some(Kind::Plus),
+        '-' => Some(Kind::Minus),
+        '*' => Some(Kind::Star),
+        '/' => Some(Kind::Slash),
+        '%' => Some(Kind::Percent),
+        '@' => Some(Kind::At),
+        '&' => Some(Kind::Ampersand),
+        '|' => Some(Kind::Bar),
+        '^' => Some(Kind::Caret),
+        '~' => Some(Kind::Tilde),
+        '<' => Some(Kind::Less),
+        '>' => Some(Kind::Greater),
+        _ => None,
+    }
+}
+
+/// The operator of this character and `=`.
+fn before_equal(c: char) -> Option<Kind>
+    ensures { result ≡ before_equal c }
+{
+    match c {
+        '=' => Some(Kind::DoubleEqual),
+        '!' => Some(Kind::NotEqual),
+        '<' => Some(Kind::LessEqual),
+        '>' => Some(Kind::GreaterEqual),
+        ':' => Some(Kind::ColonEqual),
+        '+' => Some(Kind::PlusEqual),
+        '-' => Some(Kind::MinusEqual),
+        '*' => Some(Kind::StarEqual),
+        '/' => Some(Kind::SlashEqual),
+        '%' => Some(Kind::PercentEqual),
+        '@' => Some(Kind::AtEqual),
+        '&' => Some(Kind::AmpersandEqual),
+        '|' => Some(Kind::BarEqual),
+        '^' => Some(Kind::CaretEqual),
+        _ => None,
+    }
+}
+
+/// The operator of this character twice.
+fn doubled(c: char) -> Option<Kind>
+    ensures { result ≡ doubled c }
+{
+    match c {
+        '*' => Some(Kind::DoubleStar),
+        '/' => Some(Kind::DoubleSlash),
+        '<' => Some(Kind::LeftShift),
+        '>' => Some(Kind::RightShift),
+        _ => None,
+    }
+}
+
+/// The operator of this character twice and `=`.
+fn doubled_before_equal(c: char) -> Option<Kind>
+    ensures { result ≡ doubled_before_equal c }
+{
+    match c {
+        '*' => Some(Kind::DoubleStarEqual),
+        '/' => Some(Kind::DoubleSlashEqual),
+        '<' => Some(Kind::LeftShiftEqual),
+        '>' => Some(Kind::RightShiftEqual),
+        _ => None,
+    }
+}
+
+fn two_signs(a: char, b: char) -> Option<Kind>
+    ensures { result ≡ two_signs a b }
+{
+    if b == '=' {
+        before_equal(a)
+    } else if a == b {
+        doubled(a)
+    } else if a == '-' && b == '>' {
+        Some(Kind::Arrow)
+    } else {
+        None
+    }
+}
+
+fn three_signs(a: char, b: char, c: char) -> Option<Kind>
+    ensures { result ≡ three_signs a b c }
+{
+    if a != b {
+        None
+    } else if c == '=' {
+        doubled_before_equal(a)
+    } else if a == '.' && c == '.' {
+        Some(Kind::Ellipsis)
+    } else {
+        None
+    }
+}
+
+fn operator_or(len: usize, kind: Option<Kind>, other: Option<Operator>) -> Option<Operator>
+    ensures { result ≡ operator_or len kind other }
+{
+    match kind {
+        Some(kind) => Some(Operator { len, kind }),
+        None => other,
+    }
+}
+
+/// The longest operator or delimiter at the front (Language Reference, 2.5 and 2.6).
+pub fn longest_operator(chars: &[char]) -> Option<Operator>
+    ensures { result ≡ longest_operator chars.now }
+{
+    match chars {
+        [] => None,
+        [a] => operator_or(1, sign(*a), None),
+        [a, b] => operator_or(2, two_signs(*a, *b), operator_or(1, sign(*a), None)),
+        [a, b, c, ..] => {
+            let shorter = operator_or(2, two_signs(*a, *b), operator_or(1, sign(*a), None));
+            operator_or(3, three_signs(*a, *b, *c), shorter)
+        }
+    }
+}

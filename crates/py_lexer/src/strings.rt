@@ -1,0 +1,119 @@
+//! Strings.
+
+ghost use Rattle.std.specs.Prelude.{◌≡◌, ◌≤◌, ◌<◌, ◌+◌, ◌∷◌, ◌^◌, length, drop, IfOk, IsTrue, encode_utf8_all};
+ghost use Rattle.rv_names.specs.Identifier.{is_identifier_start};
+ghost use Rattle.py_lexer.specs.Front.{front_of};
+ghost use Rattle.py_lexer.specs.Strings.{quotes_len, quotes_at, unformatted, formatted, string_of, string, string_or_word};
+
+use crate::piece::{Lexeme, Piece};
+use crate::state::{Mode, State};
+use crate::token::{Kind, LexKind, Value};
+use crate::words::{text_of, word};
+use py_literals::escape::{EscapeError, decode};
+use py_literals::formatted::has_form;
+use py_literals::text::{Opening, StringKind, string_body, string_opening};
+use rv_names::{Memory, Text};
+use std::alloc::Global;
+
+/// How many quotes open such a string, and close it.
+pub fn quotes_len(kind: &StringKind) -> usize
+    ensures value { result ≡ quotes_len kind.now }
+    ensures some { 0 < result }
+    ensures few { result ≤ 3 }
+{
+    if kind.triple { 3 } else { 1 }
+}
+
+fn quotes_at(opening: &Opening) -> usize
+    ensures { result ≡ quotes_at opening.now }
+{
+    opening.len.saturating_sub(quotes_len(&opening.kind))
+}
+
+/// The characters as a text.
+pub(crate) fn value_of(alloc: Global, chars: &[char]) -> Result<Text, Memory>
+    ensures { IfOk result (λ text. text ≡ encode_utf8_all chars.now) }
+{
+    Text::from_string(text_of(alloc, chars)?)
+}
+
+fn unformatted(alloc: Global, opening: &Opening, body: &[char]) -> Result<Lexeme, Memory>
+    requires { opening.now.len + length body.now < 2 ^ 63 }
+    ensures { IfOk result (λ lexeme. lexeme ≡ unformatted opening.now body.now) }
+{
+    let len = opening.len + body.len() + quotes_len(&opening.kind);
+    match decode(alloc, &opening.kind, body) {
+        Err(EscapeError::Memory) => Err(Memory),
+        Err(EscapeError::Bad(offset)) => {
+            let ahead = opening.len + offset.min(body.len());
+            Ok(Lexeme::Refused(LexKind::BadEscape, ahead))
+        }
+        Ok(_) if opening.kind.bytes => Ok(Lexeme::Spelled(len, Kind::Bytes, Value::Nothing)),
+        Ok(value) => {
+            let text = value_of(alloc, &value)?;
+            Ok(Lexeme::Spelled(len, Kind::Text, Value::Text(text)))
+        }
+    }
+}
+
+fn formatted(state: &mut State, opening: &Opening, body: &[char], beyond: usize) -> Piece
+    ensures { front_of result state.new ≡ formatted state.old opening.now body.now beyond }
+{
+    if has_form(&opening.kind, body) {
+        state.mode = Mode::Literal(opening.kind, beyond);
+        Piece::Found(opening.len, Kind::FStringStart, Value::Nothing)
+    } else {
+        Piece::Bad(LexKind::FStringForm, quotes_at(opening))
+    }
+}
+
+fn string_of(
+    alloc: Global,
+    state: &mut State,
+    opening: &Opening,
+    chars: &[char],
+) -> Result<Piece, Memory>
+    requires { opening.now.len ≤ length chars.now }
+    ensures { IfOk result (λ p. front_of p state.new ≡ string_of state.old opening.now chars.now) }
+{
+    let (_, rest) = chars.split_at(opening.len);
+    match string_body(&opening.kind, rest) {
+        None => Ok(Piece::Bad(LexKind::OpenString, quotes_at(opening))),
+        Some(len) => {
+            let (body, behind) = rest.split_at(len);
+            if opening.kind.formatted {
+                Ok(formatted(state, opening, body, behind.len()))
+            } else {
+                Ok(Piece::from(unformatted(alloc, opening, body)?))
+            }
+        }
+    }
+}
+
+/// The string that begins with a quote here (Language Reference, 2.4.1).
+pub fn string(alloc: Global, state: &mut State, chars: &[char]) -> Result<Piece, Memory>
+    ensures { IfOk result (λ p. front_of p state.new ≡ string state.old chars.now) }
+{
+    match string_opening(chars) {
+        None => Ok(Piece::Bad(LexKind::BadChar, 0)),
+        Some(opening) => string_of(alloc, state, &opening, chars),
+    }
+}
+
+/// The string with a prefix, or else the keyword or name, that begins with a letter here (Language Reference, 2.3, 2.4.1).
+pub fn string_or_word(
+    alloc: Global,
+    state: &mut State,
+    first: char,
+    rest: &[char],
+    chars: &[char],
+) -> Result<Piece, Memory>
+    requires parts { chars.now ≡ first ∷ rest.now }
+    requires letter { IsTrue (is_identifier_start first) }
+    ensures { IfOk result (λ p. front_of p state.new ≡ string_or_word state.old chars.now) }
+{
+    match string_opening(chars) {
+        None => Ok(Piece::from(word(alloc, first, rest, chars)?)),
+        Some(opening) => string_of(alloc, state, &opening, chars),
+    }
+}
