@@ -1,0 +1,5 @@
+pub mod Draws
+pub mod Fixed
+pub mod Joined
+pub mod Modules
+pub mod Script
