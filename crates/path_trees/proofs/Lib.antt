@@ -1,0 +1,9 @@
+pub mod Orders
+pub mod Finite
+pub mod TreeLaws
+pub mod Merges
+pub mod Covers
+pub mod Rooms
+pub mod TreeParts
+pub mod Cuts
+pub mod TouchParts

@@ -1,0 +1,7 @@
+pub mod Steps
+pub mod Spots
+pub mod Moves
+pub mod Trees
+pub mod Operations
+pub mod Room
+pub mod Merging
