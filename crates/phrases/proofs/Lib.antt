@@ -1,0 +1,13 @@
+pub mod Sets
+pub mod Tokens
+pub mod Sequence
+pub mod Either
+pub mod Repeated
+pub mod AnyRoom
+pub mod InStates
+pub mod InStatesAnyRoom
+pub mod Composed
+pub mod Nested
+pub mod Outcomes
+pub mod Loops
+pub mod Calls

@@ -1,0 +1,10 @@
+pub mod Sets
+pub mod Spelling
+pub mod Reading
+pub mod Phrases
+pub mod Series
+pub mod Nesting
+pub mod Laws
+pub mod Verdict
+pub mod Loops
+pub mod Example
