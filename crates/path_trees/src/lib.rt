@@ -23,6 +23,8 @@ mod operations;
 mod paths;
 mod spots;
 mod steps;
+#[cfg(test)]
+mod tests;
 mod touching;
 mod trees;
 

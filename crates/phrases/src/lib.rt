@@ -7,7 +7,8 @@
 //!
 //! `Laws` (`specs/Laws.antt`) ties the reader to the relation, `laws` has it of each of the seven, and `verdict` what follows
 //! for a whole grammar: the longest run that some spelled list begins with, the exact place of a fault, and one value a list.
-//! `read` has the loops and single steps of a recursive descent over slices, which answer what the readers do.
+//! `proofs/Nested.antt` has the laws of a grammar at every depth, from those of its layer. `read` has the loops of a recursive
+//! descent over slices, which answer what the readers do, and `example` a small grammar that shows the whole at work.
 #![tactic(auto)]
 
 pub mod example;

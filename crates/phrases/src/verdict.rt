@@ -9,13 +9,11 @@ use crate::grammar::{Classed, Grammar};
 
 /// What the reader answers is true: a value is that of the longest run with which a spelled list begins; a fault of syntax
 /// stands at the first token with which no spelled list goes on; and one of nesting at the first that opens one too many.
-
 pub fn outcome_is_true<T: Classed, A, G: Grammar<T, A>>()
     ensures { (room : ℕ) (ts : List T) → Means G.phrase room ts ((G.phrase room).read ts) }
 {}
 
 /// No list of tokens spells two values, however deep it nests.
-
 pub fn one_value<T: Classed, A, G: Grammar<T, A>>()
     ensures { (x : List T) (a b : A) → Spelled G.phrase x a → Spelled G.phrase x b → a ≡ b }
 {}
