@@ -39,7 +39,7 @@ impl<V: Told> TurnLock<V> {
         self.table.shared.load::<Glance>(&mut seat.place, COUNT)
     }
 
-    /// Waits for the seat's turn, and takes the value. Seats are served in the order in which they came.
+    /// Waits for the ticket that it draws, and takes the value. No contract says how long that takes, or that it ends.
     ///
     /// It spins for a short time, then yields, and then sleeps until a turn is passed.
     pub fn hold<'a, R: Wait>(&'a self, rt: &R, seat: &'a mut Seat<V>) -> Held<'a, V>
