@@ -5,15 +5,16 @@ use Rattle.std.specs.declared.cmp.Ordering.{Ordering}
 use Rattle.std.specs.declared.cmp.Ordering.TheVariants.{Less, Equal, Greater}
 use Rattle.std.specs.Cmp.{IsTotalOrder}
 use Rattle.std.specs.FinMap.{IsAntisymmetric, nat_cmp-IsAntisymmetric, slice_cmp-IsAntisymmetric}
-use Rattle.std.proofs.lemmas.Cmp.{on_total, then_total, nat_cmp_total, lists_total, nat_list_cmp_total}
+use Rattle.std.proofs.lemmas.Cmp.{on_total, then_total, nat_cmp_total, lists_total}
 use Rattle.path_trees.specs.declared.steps.Step.{Step}
-use Rattle.path_trees.specs.declared.steps.Step.TheVariants.{Attr, Key, Any, Keys}
+use Rattle.path_trees.specs.declared.steps.Step.TheVariants.{Any}
 use Rattle.path_trees.specs.declared.marks.Port.{Port}
 use Rattle.path_trees.specs.declared.marks.Port.TheVariants.{Result, Cell}
 use Rattle.path_trees.specs.declared.marks.Mark.{Mark}
 use Rattle.path_trees.specs.declared.marks.Mark.TheVariants.{Source, Sink, Out}
 use Rattle.path_trees.specs.declared.spots.Spot.{Spot}
-use Rattle.path_trees.specs.Steps.{step_order, path_order, step_rank, step_text}
+use Rattle.path_trees.specs.Steps.{step_order, path_order}
+pub use Rattle.path_trees.specs.StepLaws.{step_order-total, step_order-exact}
 use Rattle.path_trees.specs.Spots.{mark_rank, port_order, mark_order, spot_order}
 
 -- an order that is another one at each pair
@@ -33,16 +34,6 @@ both_Equal : (a b : Ordering) → ordering_then a b ≡ Equal → (a ≡ Equal) 
 both_Equal Less b e = absurd (cc)
 both_Equal Equal b e = (refl, e)
 both_Equal Greater b e = absurd (cc)
-
-pub step_order-total : IsTotalOrder step_order
-step_order-total = then_total (on_total step_rank nat_cmp_total) (on_total step_text nat_list_cmp_total)
-
-pub step_order-exact : IsAntisymmetric step_order
-step_order-exact (Attr a) (Attr b) e = ap Attr (slice_cmp-IsAntisymmetric nat_cmp-IsAntisymmetric a b e)
-step_order-exact (Key a) (Key b) e = ap Key (slice_cmp-IsAntisymmetric nat_cmp-IsAntisymmetric a b e)
-step_order-exact Any Any e = refl
-step_order-exact Keys Keys e = refl
-step_order-exact a b e = absurd (cc)
 
 pub path_order-total : IsTotalOrder path_order
 path_order-total = lists_total step_order-total

@@ -107,7 +107,8 @@ in_texts : (text : Bytes) → IsHeldText text → In text all_texts
 unfolding all_texts
 in_texts text h = in_words (below (2 ^ 8)) (2 ^ 64) text (bytes_in (2 ^ 8) text h.bytes) (let s = h.short in omega arith)
 
-in_steps : (s : Step) → IsHeldStep s → In s all_steps
+-- a step that a program can hold is one of them
+pub in_steps : (s : Step) → IsHeldStep s → In s all_steps
 unfolding all_steps
 in_steps (Attr a) h = in_left (Attr a) (map Attr all_texts) (map Key all_texts ++ Any ∷ Keys ∷ []) (in_map Attr a all_texts (in_texts a h))
 in_steps (Key a) h = in_right (Key a) (map Attr all_texts) (map Key all_texts ++ Any ∷ Keys ∷ []) (in_left (Key a) (map Key all_texts) (Any ∷ Keys ∷ []) (in_map Key a all_texts (in_texts a h)))

@@ -1,4 +1,5 @@
 pub mod Steps
+pub mod StepLaws
 pub mod Spots
 pub mod Moves
 pub mod Trees

@@ -126,6 +126,60 @@ impl Step {
     }
 }
 
+impl PartialEq for Step {
+    ghost use Rattle.std.specs.Cmp.{partial_equiv_from_equiv};
+    ghost use Rattle.path_trees.specs.Steps.{step_equal};
+    ghost use Rattle.path_trees.specs.StepLaws.{step_equal-equivalence};
+
+    ghost eq = { step_equal };
+
+    ghost laws = { partial_equiv_from_equiv step_equal-equivalence };
+
+    fn eq(&self, other: &Step) -> bool {
+        self.same(other)
+    }
+}
+
+impl Eq for Step {
+    ghost use Rattle.path_trees.specs.StepLaws.{step_equal-equivalence};
+
+    ghost laws = { step_equal-equivalence };
+}
+
+impl Ord for Step {
+    ghost use Rattle.std.specs.Prelude.{refl};
+    ghost use Rattle.path_trees.specs.Steps.{step_order};
+    ghost use Rattle.path_trees.specs.StepLaws.{step_equal-ties, step_order-total};
+
+    ghost cmp = { step_order };
+
+    ghost total = { step_order-total };
+
+    ghost matches_partial_cmp = { λ a b. refl };
+
+    ghost matches_eq = { step_equal-ties };
+
+    fn cmp(&self, other: &Step) -> Ordering {
+        self.order(other)
+    }
+}
+
+impl PartialOrd for Step {
+    ghost use Rattle.std.specs.Prelude.{refl};
+    ghost use Rattle.std.specs.Cmp.{partial_order_from_agreeing_total};
+    ghost use Rattle.std.specs.Ordering.{as_partial_cmp};
+    ghost use Rattle.path_trees.specs.Steps.{step_order};
+    ghost use Rattle.path_trees.specs.StepLaws.{step_equal-ties, step_order-total};
+
+    ghost partial_cmp = { as_partial_cmp step_order };
+
+    ghost laws = { partial_order_from_agreeing_total step_order step_order-total (λ a b. refl) step_equal-ties };
+
+    fn partial_cmp(&self, other: &Step) -> Option<Ordering> {
+        Some(self.order(other))
+    }
+}
+
 fn know_text(bytes: &[u8])
     ensures { IsHeldText bytes.now }
 {

@@ -180,6 +180,7 @@ collapse | a/b/c/d S 63, K K 0 | - S 63, - K 0
 bump | - S 63 | - S 63
 bump | - S 62, a S 0, b =x 1 | - S 63, a S 1, b =x 2
 bump | none | none
+bump | 'k/x ~a/b 61, */x T 63, - S 0, - K 63 | 'k/x ~a/b 62, */x T 63, - S 1, - K 63
 join a S 1, b S 5 | a S 3, b S 2, - T 0 | a S 1, b S 2, - T 0
 join none | a S 63 | a S 63
 join a S 63, a =x 1 | a S 0, a ~x 1 | a S 0, a =x 1, a ~x 1
