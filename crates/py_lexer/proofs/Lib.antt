@@ -7,3 +7,12 @@ pub mod Places
 pub mod Runs
 pub mod OneAnswer
 pub mod Dedents
+pub mod Gaps
+pub mod Fits
+pub mod StringFits
+pub mod Starts
+pub mod NoLonger
+pub mod Unbraced
+pub mod PieceFits
+pub mod Fields
+pub mod TokenLaws

@@ -13,4 +13,5 @@ pub mod Margin
 pub mod Formatted
 pub mod Pieces
 pub mod Runs
+pub mod Layout
 pub mod Laws

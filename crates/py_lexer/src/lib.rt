@@ -1,7 +1,7 @@
 //! The tokens of a Python text (Language Reference, chapter 2), or its one lexical fault.
 //!
 //! * `lexing`: `lex`, the tokens of a text;
-//! * `laws`: what holds of each text: it has one answer;
+//! * `laws`: what holds of each text: it has one answer, and its tokens lie in it in order, each the longest possible;
 //! * `token`: a `Token`, its `Kind` and its `Value`, and the `LexKind`s of faults;
 //! * `form`: a `Form`, the name of a form that isn't supported;
 //! * `source`: a text as it is read: its byte order mark and its line ends;
@@ -33,6 +33,6 @@ mod token;
 mod words;
 
 pub use form::Form;
-pub use laws::one_answer;
+pub use laws::{layout, longest, one_answer};
 pub use lexing::lex;
 pub use token::{Kind, LexError, LexKind, Token, Value};
