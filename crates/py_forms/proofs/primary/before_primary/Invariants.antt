@@ -1,0 +1,13 @@
+use Rattle.std.proofs.Common.{◌≡◌, ◌+◌, ◌≤◌, length}
+use Rattle.py_forms.specs.Roles.{back_of}
+use Rattle.py_forms.specs.Primaries.{before_primary}
+use Rattle.py_forms.proofs.primary.before_primary.Given as goal
+
+abbrev pub invariant-outward : goal.invariant-outward
+invariant-outward l = record {
+  same : before_primary l.closed (back_of l.rest) ≡ before_primary 0 (back_of l.run);
+  room : l.closed + length l.rest ≤ length l.run;
+}
+
+abbrev pub decreases-outward : goal.decreases-outward
+decreases-outward l = length l.rest

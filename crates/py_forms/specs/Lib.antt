@@ -1,0 +1,5 @@
+pub mod Roles
+pub mod Levels
+pub mod Primaries
+pub mod Spots
+pub mod Forms
