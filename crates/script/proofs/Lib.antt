@@ -1,0 +1,14 @@
+pub mod Digits
+pub mod Json
+pub mod Again
+pub mod Parts
+pub mod Laws
+pub mod Spans
+pub mod Readers
+pub mod Sample
+pub mod Spelled
+pub mod Queries
+pub mod Whole
+pub mod Puts
+pub mod Pieces
+pub mod Lengths
