@@ -33,8 +33,8 @@ spot (role ∷ before) = spot_by role before
 -- an operand
 abbrev pub takes_operand : Spot → Bool
 takes_operand Start = true
-takes_operand (First bracket) = true
-takes_operand (Later bracket) = true
+takes_operand (First _) = true
+takes_operand (Later _) = true
 takes_operand BehindKeyword = false
 takes_operand Value = true
 takes_operand Operand = true
@@ -43,8 +43,8 @@ takes_operand Nowhere = false
 -- a whole expression, which a `lambda` may be (6.14)
 abbrev pub takes_expression : Spot → Bool
 takes_expression Start = true
-takes_expression (First bracket) = true
-takes_expression (Later bracket) = true
+takes_expression (First _) = true
+takes_expression (Later _) = true
 takes_expression BehindKeyword = false
 takes_expression Value = true
 takes_expression Operand = false
@@ -72,7 +72,7 @@ takes_item _ = false
 
 -- a starred item or argument
 abbrev pub takes_star : Spot → Bool
-takes_star (First bracket) = true
+takes_star (First _) = true
 takes_star (Later bracket) = takes_item bracket
 takes_star BehindKeyword = true
 takes_star _ = false

@@ -1,0 +1,11 @@
+pub mod Kinds
+pub mod Trees
+pub mod Tokens
+pub mod Nested
+pub mod Grammar
+pub mod Literals
+pub mod Statements
+pub mod Files
+pub mod Keys
+pub mod Remarks
+pub mod Parsed

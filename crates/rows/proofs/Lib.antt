@@ -1,0 +1,9 @@
+pub mod Joins
+pub mod Monotone
+pub mod RightTrees
+pub mod Indexes
+pub mod Turns
+pub mod Gifts
+pub mod Monotony
+pub mod Edits
+pub mod Putters

@@ -1,0 +1,98 @@
+-- A solution for greater inputs, where rows read them, is one for lesser ones; what is not touched stays solved.
+use Rattle.std.proofs.Common.{◌≡◌, ℕ, List, [], ◌∷◌, Bool, true, Option, Some, None, refl, ap, ◌∙◌, sym, subst, inl, inr, ◌⊎◌, eqb, IsTrue}
+use Rattle.std.specs.FinMap.{empty}
+use Rattle.std.proofs.lemmas.Bool.Decides.{nat_tests}
+use Rattle.std.proofs.Common.{arith}
+use Rattle.path_trees.specs.declared.steps.Step.{Step}
+use Rattle.path_trees.specs.declared.moves.Move.TheVariants.{Bump}
+use Rattle.path_trees.specs.Trees.{TreeMap, Below}
+use Rattle.path_trees.proofs.Finite.{below_refl, below_trans, below_antisymm}
+use Rattle.path_trees.proofs.TreeLaws.{moved-mono}
+use Rattle.rows.specs.declared.places.Place.{Place}
+use Rattle.rows.specs.declared.places.Place.TheVariants.{Node, Result, Back, Put}
+use Rattle.rows.specs.declared.inequalities.Right.{Right}
+use Rattle.rows.specs.declared.inequalities.Right.TheVariants.{Known, Local, Outer, Carried, Through, Wanted, Cells}
+use Rattle.rows.specs.declared.inequalities.Row.{Row}
+use Rattle.rows.specs.declared.inequalities.Row.TheVariants.{Into, Puts}
+use Rattle.rows.specs.Families.{Family, Families, InputTrees, Less}
+use Rattle.rows.specs.Inequalities.{RightBelow, Holds, Solves, IsLeast}
+use Rattle.rows.specs.Reading.{right_node, is_node}
+use Rattle.rows.specs.Programs.{Body, Bodies, callee_tree, inputs_of, SolvesAll, IsLeastOfAll, RightReads, RightReadsCell, RowReads, RowsRead, RowsReadCell, RowReadsNode, RowsReadNode, LessWhereRead, ReadsCallee, ReadsAsCell, Reads}
+use Rattle.rows.proofs.Monotone.{right-mono, less_refl, moved_all-mono, carried-mono, through-mono, put_through-mono, wanted-mono}
+
+right_reading : (I J : InputTrees) (N : ℕ → TreeMap) (r : Right) (u : TreeMap) → ((k : ℕ) (p : Place) → RightReads r k p → Below (I.of k p) (J.of k p)) → ((h : ℕ) (c : Step) → RightReadsCell r c → Below (I.puts h c) (J.puts h c)) → RightBelow J N r u → RightBelow I N r u
+right_reading I J N (Known t) u o q w = w
+right_reading I J N (Local moves k) u o q w = w
+right_reading I J N (Outer moves g p) u o q w = below_trans (moved_all-mono moves (I.of g p) (J.of g p) (o g p (refl, refl))) w
+right_reading I J N (Carried g i) u o q w = below_trans (carried-mono (I.of g (Back i)) (J.of g (Back i)) (o g (Back i) (refl, refl))) w
+right_reading I J N (Through g i n) u o q w = below_trans (through-mono (N n) (N n) (I.of g (Back i)) (J.of g (Back i)) (below_refl (N n)) (o g (Back i) (refl, refl))) w
+right_reading I J N (Wanted g i n) u o q w = below_trans (wanted-mono (N n) (N n) (I.of g (Back i)) (J.of g (Back i)) (below_refl (N n)) (o g (Back i) (refl, refl))) w
+right_reading I J N (Cells moves s) u o q w = λ h c m. below_trans (moved_all-mono moves _ _ (moved-mono Bump (I.puts h c) (J.puts h c) (q h c m))) (w h c m)
+
+holds_reading : (I J : InputTrees) (F : Family) (r : Row) → LessWhereRead (r ∷ []) I J → Holds J F r → Holds I F r
+holds_reading I J F (Into p r) l h = right_reading I J (λ n. F (Node n)) r (F p) (λ k q w. l.of k q (inl w)) (λ f c w. l.puts f c (inl w)) h
+holds_reading I J F (Puts g i n) l h = λ c.
+    below_trans (put_through-mono c (F (Node n)) (F (Node n)) (I.of g (Back i)) (J.of g (Back i)) (below_refl (F (Node n))) (l.of g (Back i) (inl (refl, refl)))) (h c)
+
+pub solves_reading : (I J : InputTrees) (F : Family) (rows : List Row) → LessWhereRead rows I J → Solves J F rows → Solves I F rows
+solves_reading I J F [] l s = tt
+solves_reading I J F (r ∷ rows) l s = (
+  holds_reading I J F r (record {
+    of = λ k p w. l.of k p (elim w [ inl a ↦ inl a | inr n ↦ absurd n ]);
+    puts = λ h c w. l.puts h c (elim w [ inl a ↦ inl a | inr n ↦ absurd n ]);
+  }) s.0,
+  solves_reading I J F rows (record { of = λ k p w. l.of k p (inr w); puts = λ h c w. l.puts h c (inr w) }) s.1,
+)
+
+pub solves_for_less : (I J : InputTrees) (F : Family) (rows : List Row) → Less I J → Solves J F rows → Solves I F rows
+solves_for_less I J F rows l s = solves_reading I J F rows (record { of = λ k p w. l.of k p; puts = λ h c w. l.puts h c }) s
+
+-- least trees are monotone in the inputs
+pub least-mono : (I J : InputTrees) (rows : List Row) (F G : Family) → Less I J → IsLeast I rows F → IsLeast J rows G → (p : Place) → Below (F p) (G p)
+least-mono I J rows F G l f g = f.least G (solves_for_less I J G rows l g.solves)
+
+-- there is at most one least solution
+pub least_is_one : (I : InputTrees) (rows : List Row) (F G : Family) → IsLeast I rows F → IsLeast I rows G → (p : Place) → F p ≡ G p
+least_is_one I rows F G f g p = below_antisymm (F p) (G p) (f.least G g.solves p) (g.least F f.solves p)
+
+pub least_of_all_is_one : (bodies : Bodies) (M N : Families) → IsLeastOfAll bodies M → IsLeastOfAll bodies N → (g : ℕ) (p : Place) → M g p ≡ N g p
+least_of_all_is_one bodies M N f g h p = below_antisymm (M h p) (N h p) (f.least N g.solves h p) (g.least M f.solves h p)
+
+is_itself : (n : ℕ) → eqb n n ≡ true
+is_itself n = grind (arith, nat_tests)
+
+below_same : (t u : TreeMap) → t ≡ u → Below t u
+below_same t u e = let P : TreeMap → Type 0 = λ z. Below t z in subst P e (below_refl t)
+
+right_untouched : (I : InputTrees) (N M : ℕ → TreeMap) (r : Right) (u v : TreeMap) → ((n : ℕ) → IsTrue (is_node (right_node r) n) → M n ≡ N n) → Below u v → RightBelow I N r u → RightBelow I M r v
+right_untouched I N M (Known t) u v e b h = below_trans h b
+right_untouched I N M (Local moves n) u v e b h = below_trans (moved_all-mono moves (M n) (N n) (below_same (M n) (N n) (e n (is_itself n)))) (below_trans h b)
+right_untouched I N M (Outer moves g p) u v e b h = below_trans h b
+right_untouched I N M (Carried g i) u v e b h = below_trans h b
+right_untouched I N M (Through g i n) u v e b h = below_trans (through-mono (M n) (N n) (I.of g (Back i)) (I.of g (Back i)) (below_same (M n) (N n) (e n (is_itself n))) (below_refl (I.of g (Back i)))) (below_trans h b)
+right_untouched I N M (Wanted g i n) u v e b h = below_trans (wanted-mono (M n) (N n) (I.of g (Back i)) (I.of g (Back i)) (below_same (M n) (N n) (e n (is_itself n))) (below_refl (I.of g (Back i)))) (below_trans h b)
+right_untouched I N M (Cells moves s) u v e b h = λ f c m. below_trans (h f c m) b
+
+-- a row stays solved where no node that it reads changes, and trees grow
+holds_untouched : (I : InputTrees) (F H : Family) (r : Row) → ((n : ℕ) → RowReadsNode r n → H (Node n) ≡ F (Node n)) → ((p : Place) → Below (F p) (H p)) → Holds I F r → Holds I H r
+holds_untouched I F H (Into p r) e b h = right_untouched I (λ n. F (Node n)) (λ n. H (Node n)) r (F p) (H p) e (b p) h
+holds_untouched I F H (Puts g i n) e b h = λ c.
+    below_trans (put_through-mono c (H (Node n)) (F (Node n)) (I.of g (Back i)) (I.of g (Back i)) (below_same (H (Node n)) (F (Node n)) (e n refl)) (below_refl (I.of g (Back i)))) (below_trans (h c) (b (Put c)))
+
+pub solves_untouched : (I : InputTrees) (F H : Family) (rows : List Row) → ((n : ℕ) → RowsReadNode rows n → H (Node n) ≡ F (Node n)) → ((p : Place) → Below (F p) (H p)) → Solves I F rows → Solves I H rows
+solves_untouched I F H [] e b s = tt
+solves_untouched I F H (r ∷ rows) e b s = (holds_untouched I F H r (λ n w. e n (inl w)) b s.0, solves_untouched I F H rows (λ n w. e n (inr w)) b s.1)
+
+-- what a body reads of families that are greater there
+callee_less : (M N : Families) (o : Option ℕ) (p : Place) → ((f : ℕ) → o ≡ Some f → Below (M f p) (N f p)) → Below (callee_tree M o p) (callee_tree N o p)
+callee_less M N None p h = below_refl empty
+callee_less M N (Some f) p h = h f refl
+
+pub body_reading : (b : Body) (M N : Families) (T : Family) → ((f : ℕ) (p : Place) → Reads b f p → Below (M f p) (N f p)) → Solves (inputs_of b N) T b.rows → Solves (inputs_of b M) T b.rows
+body_reading b M N T h s = solves_reading (inputs_of b M) (inputs_of b N) T b.rows (record {
+  of = λ k p w. callee_less M N _ p (λ f e. h f p (inl (record { position = k; callee = e; reads = w })));
+  puts = λ f c w. h f (Put c) (inr w);
+}) s
+
+pub body_for_less : (b : Body) (M N : Families) (T : Family) → ((f : ℕ) (p : Place) → Below (M f p) (N f p)) → Solves (inputs_of b N) T b.rows → Solves (inputs_of b M) T b.rows
+body_for_less b M N T h s = body_reading b M N T (λ f p w. h f p) s

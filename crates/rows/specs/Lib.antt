@@ -1,0 +1,10 @@
+pub mod Families
+pub mod Rules
+pub mod Inequalities
+pub mod Making
+pub mod Reading
+pub mod Working
+pub mod Solutions
+pub mod Programs
+pub mod Orders
+pub mod Told
