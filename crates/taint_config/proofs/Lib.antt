@@ -1,0 +1,10 @@
+pub mod Json
+pub mod Names
+pub mod Agreement
+pub mod Keys
+pub mod Places
+pub mod KindLaws
+pub mod NumberLaws
+pub mod RuleLaws
+pub mod ConfigLaws
+pub mod FileLaws
