@@ -14,7 +14,8 @@ import sys
 import tokenize
 
 sys.path.insert(0, os.path.join(os.path.dirname(os.path.abspath(__file__)), "..", "tests"))
-from tokens import ROOT, library, source_of  # noqa: E402
+from timing import best, dump  # noqa: E402
+from tokens import library, source_of  # noqa: E402
 
 MEBIBYTE = 1 << 20
 
@@ -38,19 +39,8 @@ def accepted(program, size):
     return b"".join(parts)
 
 
-def best(run, whose, times):
-    """The least processor time of some runs, in this process or in its children."""
-    taken = []
-    for _ in range(times):
-        before = resource.getrusage(whose)
-        run()
-        after = resource.getrusage(whose)
-        taken.append(after.ru_utime - before.ru_utime + after.ru_stime - before.ru_stime)
-    return min(taken)
-
-
 def main():
-    program = subprocess.run([os.path.join(ROOT, "tools", "program"), "dump"], capture_output=True, text=True, check=True).stdout.strip()
+    program = dump()
     once = accepted(program, 10 * MEBIBYTE)
     twice = once + once
 
