@@ -8,4 +8,8 @@ pub mod Statements
 pub mod Files
 pub mod Keys
 pub mod Remarks
+pub mod Bindings
+pub mod Uses
+pub mod ScopeFaults
+pub mod Owned
 pub mod Parsed

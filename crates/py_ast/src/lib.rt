@@ -2,6 +2,7 @@
 #![tactic(auto)]
 
 mod argument;
+mod binding;
 mod chain;
 mod keys;
 mod laws;
@@ -12,6 +13,7 @@ mod statement;
 mod target;
 mod tree;
 
+pub use binding::{Binding, BindingKind, Display, How, ScopeFault, Use};
 pub use chain::{anchor_after, node_after};
 pub use keys::{Key, KeyName};
 pub use laws::{one_expression, one_module};

@@ -2,13 +2,15 @@
 
 ghost use Rattle.std.specs.Prelude.{◌≡◌};
 ghost use Rattle.py_ast.specs.Parsed.{IsSpelled};
+ghost use Rattle.py_ast.specs.ScopeFaults.{HasNoScopeFault};
 
 use crate::statement::Module;
 use rv_names::{QName, Text};
 use std::marker::Model;
 use std::sync::Arc;
 
-/// A text and the module that it spells, with 100 nestings at most in expressions and 100 blocks, one in another.
+/// A text and the module that it spells, with 100 nestings at most in expressions and 100 blocks, one in another. No name of
+/// the module is bound again where that isn't supported, and no variable is called by its bare name.
 #[derive(Drop)]
 pub struct Parsed {
     text: Text,
@@ -17,6 +19,7 @@ pub struct Parsed {
 
 impl Model for Parsed {
     ghost use Rattle.py_ast.specs.Parsed.{Kept, IsSpelled};
+    ghost use Rattle.py_ast.specs.ScopeFaults.{HasNoScopeFault};
     ghost use Rattle.std.specs.Coded.{codes};
     ghost use Rattle.py_ast.specs.contracts.statement.StmtForm as forms;
 
@@ -26,13 +29,14 @@ impl Model for Parsed {
 
     ghost view = { λ p. record { text = p.text; tree = p.tree } };
 
-    ghost invariant = { λ p. IsSpelled p.text p.tree };
+    ghost invariant = { λ p. IsSpelled p.text p.tree × HasNoScopeFault p.tree };
 }
 
 impl Parsed {
     /// The text with its module.
     pub fn new(text: Text, tree: Module) -> Parsed
-        requires { IsSpelled text tree }
+        requires spelled { IsSpelled text tree }
+        requires scopes { HasNoScopeFault tree }
         ensures { result ≡ record { text = text; tree = tree } }
     {
         Parsed { text, tree }
@@ -42,6 +46,7 @@ impl Parsed {
     pub fn module(&self) -> &Module
         ensures value { result.now ≡ self.now.tree }
         ensures spelled { IsSpelled self.now.text self.now.tree }
+        ensures scopes { HasNoScopeFault self.now.tree }
     {
         &self.tree
     }
@@ -50,6 +55,7 @@ impl Parsed {
     pub fn text(&self) -> &str
         ensures value { result.now ≡ self.now.text }
         ensures spelled { IsSpelled self.now.text self.now.tree }
+        ensures scopes { HasNoScopeFault self.now.tree }
     {
         self.text.as_str()
     }

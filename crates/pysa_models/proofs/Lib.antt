@@ -1,0 +1,5 @@
+pub mod Together
+pub mod Lists
+pub mod Rising
+pub mod Printed
+pub mod Places

@@ -1,0 +1,8 @@
+use Rattle.std.proofs.Common.{◌≡◌, ◌++◌, drop}
+use Rattle.std.specs.List.{flat_map}
+use Rattle.pysa_models.specs.Joined.{result_marks}
+use Rattle.pysa_models.proofs.declaration.Declaration.result_marks.Given as goal
+
+-- what was added, and what is still to be added, is all
+abbrev pub invariant-loop-signature : goal.invariant-loop-signature
+invariant-loop-signature l = l.marks ++ flat_map (λ s. s.result) (drop l.signature-index l.signature-items) ≡ result_marks l.self

@@ -1,0 +1,9 @@
+pub mod Marks
+pub mod Models
+pub mod Leaves
+pub mod Notes
+pub mod Joined
+pub mod Parts
+pub mod Views
+pub mod Steps
+pub mod Printed

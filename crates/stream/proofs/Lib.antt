@@ -1,0 +1,5 @@
+pub mod Fronts
+pub mod Waits
+pub mod Reached
+pub mod Held
+pub mod Rows
