@@ -1,6 +1,6 @@
 -- The names that statements bind (Language Reference, section 4.2.1, cut to the subset), in order of place. The bodies of functions and
 -- classes are scopes of their own; the blocks of `if`, `while` and `for` are not.
-use Rattle.std.specs.Prelude.{ℕ, Bool, true, false, List, [], ◌∷◌, ◌++◌, map, Option, Some, None, is_some, unwrap_or}
+use Rattle.std.specs.Prelude.{Bool, true, false, List, [], ◌∷◌, ◌++◌, map, Option, Some, None, is_some, unwrap_or}
 use Rattle.std.specs.List.{flat_map}
 use Rattle.rv_names.specs.Keys.{Bytes, Parts, bytes_equal}
 use Rattle.py_literals.specs.declared.place.Pos.{Pos}

@@ -14,7 +14,6 @@ use Rattle.py_ast.specs.declared.binding.BindingKind.TheVariants as kinds
 use Rattle.py_ast.specs.declared.binding.Display.TheVariants as displays
 use Rattle.py_ast.specs.declared.binding.How.{How}
 use Rattle.py_ast.specs.declared.binding.How.TheVariants as hows
-use Rattle.py_ast.specs.declared.binding.Use.{Use}
 use Rattle.py_ast.specs.declared.statement.Function.{Function, out-Function}
 
 -- the uses that leave a name owned: base of a read or a write, gone over or unpacked, returned

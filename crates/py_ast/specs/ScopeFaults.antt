@@ -1,6 +1,6 @@
 -- What is wrong with the names of a module that its grammar lets through (Language Reference, sections 4.2.1 and 6.3.4, cut to the
 -- subset): a name that is bound again where that isn't supported, and the call of a variable by its bare name.
-use Rattle.std.specs.Prelude.{◌≡◌, ℕ, Bool, true, false, cond, not, ◌&&◌, ◌||◌, ◌==◌, nat_lt, List, [], ◌∷◌, ◌++◌, map, filter, Option, Some, None}
+use Rattle.std.specs.Prelude.{◌≡◌, Bool, true, false, cond, not, ◌&&◌, ◌||◌, ◌==◌, nat_lt, List, [], ◌∷◌, ◌++◌, map, filter, Option, Some, None}
 use Rattle.std.specs.List.{flat_map, list_any, fold}
 use Rattle.rv_names.specs.Keys.{Bytes, Parts, parts_equal}
 use Rattle.py_literals.specs.declared.place.Pos.{Pos}

@@ -1,6 +1,6 @@
 -- The names that expressions and statements use, each with its place and with how it is used (Language Reference, chapters 6 to 8).
 -- Parentheses make no difference. A name that is bound is no use, nor is a name of a decorator or of a class's base.
-use Rattle.std.specs.Prelude.{ℕ, Bool, true, false, cond, not, ◌&&◌, List, [], ◌∷◌, ◌++◌, map, Option, Some, None}
+use Rattle.std.specs.Prelude.{Bool, true, false, cond, not, ◌&&◌, List, [], ◌∷◌, ◌++◌, map, Option, Some, None}
 use Rattle.std.specs.List.{flat_map}
 use Rattle.rv_names.specs.Keys.{Bytes, bytes_equal}
 use Rattle.py_literals.specs.declared.place.Pos.{Pos}
@@ -17,7 +17,6 @@ use Rattle.py_ast.specs.declared.tree.Joined.{Joined, fold-Joined}
 use Rattle.py_ast.specs.declared.tree.Operand.{Operand, fold-Operand}
 use Rattle.py_ast.specs.declared.tree.Pair.{Pair, fold-Pair}
 use Rattle.py_ast.specs.declared.tree.Step.{Step, fold-Step}
-use Rattle.py_ast.specs.declared.tree.NameAt.{NameAt}
 use Rattle.py_ast.specs.declared.statement.Parameter.{Parameter}
 use Rattle.py_ast.specs.declared.statement.Branch.{Branch, fold-Branch}
 use Rattle.py_ast.specs.declared.statement.Stmt.{Stmt, fold-Stmt}
@@ -59,6 +58,11 @@ base_how (false ∷ []) = hows.Read
 base_how (false ∷ false ∷ calls) = hows.Read
 base_how (false ∷ true ∷ calls) = hows.Receiver
 
+-- and of a chain that is called itself, which its parentheses hide
+abbrev pub chained_how : How → List Bool → How
+chained_how hows.Called calls = base_how (calls ++ true ∷ [])
+chained_how how calls = base_how calls
+
 abbrev pub calls_in : List InStep → List Bool
 calls_in ss = map (λ s. s.0) ss
 
@@ -82,7 +86,7 @@ used_by_form (Form-F.Comparison e others) = λ at how. as_other e ++ together ot
 used_by_form (Form-F.Binary e others) = λ at how. as_other e ++ together others
 used_by_form (Form-F.Unary operator e) = λ at how. as_other e
 used_by_form (Form-F.Power e exponent) = λ at how. as_other e ++ as_other exponent
-used_by_form (Form-F.Postfix e steps) = λ at how. e (base_how (calls_in steps)) ++ used_in_steps steps
+used_by_form (Form-F.Postfix e steps) = λ at how. e (chained_how how (calls_in steps)) ++ used_in_steps steps
 
 abbrev pub used_by_part : Part-F Numbered Uses InStep Uses Uses InContext Uses Uses Uses InStep → Uses
 used_by_part (Part-F.Part::Text s) = []
