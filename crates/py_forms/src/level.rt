@@ -127,7 +127,8 @@ pub fn step_at(closed: usize, role: Role) -> Step
 /// The run up to its innermost open bracket, and with it.
 #[tactic(auto, using(crate::proofs::Outward::outer_none, crate::proofs::Outward::outer_skip, crate::proofs::Outward::outer_inside, crate::proofs::Outward::outer_open))]
 pub fn outer(run: &[Token]) -> &[Token]
-    ensures { back_of result.now ≡ outer 0 (back_of run.now) }
+    ensures value { back_of result.now ≡ outer 0 (back_of run.now) }
+    ensures within { length result.now ≤ length run.now }
 {
     let mut rest = run;
     let mut closed = 0usize;

@@ -161,7 +161,8 @@ pub fn last_role(run: &[Token]) -> Option<(Role, &[Token])>
 /// The role of the first token, and what follows it.
 #[tactic(auto, using(crate::proofs::Backward::roles_of_none, crate::proofs::Backward::roles_of_split))]
 pub fn first_role(tokens: &[Token]) -> Option<(Role, &[Token])>
-    ensures { MatchOption result (roles_of tokens.now ≡ []) (λ p. roles_of tokens.now ≡ p.0 ∷ roles_of p.1.now) }
+    ensures roles { MatchOption result (roles_of tokens.now ≡ []) (λ p. roles_of tokens.now ≡ p.0 ∷ roles_of p.1.now) }
+    ensures shorter { IfSome result (λ p. length p.1.now + 1 ≡ length tokens.now) }
 {
     match tokens.split_first() {
         None => None,

@@ -1,6 +1,6 @@
 //! The form that a token tells behind a run.
 
-ghost use Rattle.std.specs.Prelude.{◌≡◌, ◌≤◌, ◌+◌, ◌-◌, length, IfSome, ◌∷◌};
+ghost use Rattle.std.specs.Prelude.{◌≡◌, ◌≤◌, ◌<◌, ◌+◌, ◌-◌, length, IfSome, ◌∷◌};
 ghost use Rattle.py_forms.specs.Roles.{role_of, roles_of, back_of};
 ghost use Rattle.py_forms.specs.Forms.{told_if, is_whole, bracket_place, may_hold_comprehension, is_first_whole, comprehension, async_comprehension, walrus, call_by, call, slice, set_display, told_by_token, begins_with_equal, is_super_operand, super_before, super_here, told};
 
@@ -18,7 +18,8 @@ pub struct ToldForm {
 }
 
 fn told_if(is_told: bool, form: Form, place: usize) -> Option<ToldForm>
-    ensures { result ≡ told_if is_told form place }
+    ensures value { result ≡ told_if is_told form place }
+    ensures within { IfSome result (λ f. f.place ≡ place) }
 {
     if is_told {
         Some(ToldForm { form, place })
@@ -44,7 +45,8 @@ fn is_first_whole(run: &[Token]) -> bool
 /// The index of the innermost open bracket, or 0 where none is open.
 #[tactic(auto, using(crate::proofs::Backward::length_back_of))]
 fn bracket_place(run: &[Token]) -> usize
-    ensures { result ≡ bracket_place (back_of run.now) }
+    ensures value { result ≡ bracket_place (back_of run.now) }
+    ensures within { result ≤ length run.now }
 {
     outer(run).len().saturating_sub(1)
 }
@@ -59,14 +61,16 @@ fn may_hold_comprehension(bracket: Bracket) -> bool
 }
 
 fn comprehension(run: &[Token]) -> Option<ToldForm>
-    ensures { result ≡ comprehension (back_of run.now) }
+    ensures value { result ≡ comprehension (back_of run.now) }
+    ensures within { IfSome result (λ f. f.place ≤ length run.now) }
 {
     let is_told = may_hold_comprehension(innermost(run)) && is_first_whole(run);
     told_if(is_told, Form::Comprehension, bracket_place(run))
 }
 
 fn async_comprehension(run: &[Token], after: &[Token]) -> Option<ToldForm>
-    ensures { result ≡ async_comprehension (back_of run.now) (roles_of after.now) }
+    ensures value { result ≡ async_comprehension (back_of run.now) (roles_of after.now) }
+    ensures within { IfSome result (λ f. f.place ≤ length run.now) }
 {
     match first_role(after) {
         None => None,
@@ -82,7 +86,8 @@ fn async_comprehension(run: &[Token], after: &[Token]) -> Option<ToldForm>
 
 #[tactic(auto, using(crate::proofs::Backward::length_back_of))]
 fn walrus(run: &[Token]) -> Option<ToldForm>
-    ensures { result ≡ walrus (back_of run.now) }
+    ensures value { result ≡ walrus (back_of run.now) }
+    ensures within { IfSome result (λ f. f.place ≤ length run.now) }
 {
     match last_role(run) {
         None => None,
@@ -98,7 +103,8 @@ fn walrus(run: &[Token]) -> Option<ToldForm>
 }
 
 fn call_by(callee: Callee, place: usize) -> Option<ToldForm>
-    ensures { result ≡ call_by callee place }
+    ensures value { result ≡ call_by callee place }
+    ensures within { IfSome result (λ f. f.place ≡ place) }
 {
     match callee {
         Callee::Named => None,
@@ -115,7 +121,8 @@ fn call_by(callee: Callee, place: usize) -> Option<ToldForm>
 
 #[tactic(auto, using(crate::proofs::Backward::length_back_of))]
 fn call(run: &[Token]) -> Option<ToldForm>
-    ensures { result ≡ call (back_of run.now) }
+    ensures value { result ≡ call (back_of run.now) }
+    ensures within { IfSome result (λ f. f.place ≤ length run.now) }
 {
     let before = before_primary(run);
     if is_behind_operand(run) && spot_behind(before).takes_operand() {
@@ -127,7 +134,8 @@ fn call(run: &[Token]) -> Option<ToldForm>
 
 #[tactic(auto, using(crate::proofs::Backward::length_back_of))]
 fn slice(run: &[Token]) -> Option<ToldForm>
-    ensures { result ≡ slice (back_of run.now) }
+    ensures value { result ≡ slice (back_of run.now) }
+    ensures within { IfSome result (λ f. f.place ≤ length run.now) }
 {
     let is_told = spot_behind(run).takes_slice()
         || (innermost(run) == Bracket::Subscript && is_whole(run));
@@ -135,7 +143,8 @@ fn slice(run: &[Token]) -> Option<ToldForm>
 }
 
 fn set_display(run: &[Token]) -> Option<ToldForm>
-    ensures { result ≡ set_display (back_of run.now) }
+    ensures value { result ≡ set_display (back_of run.now) }
+    ensures within { IfSome result (λ f. f.place ≤ length run.now) }
 {
     let is_told = innermost(run) == Bracket::Braces
         && !has(Separator::Colon, run)
@@ -146,7 +155,8 @@ fn set_display(run: &[Token]) -> Option<ToldForm>
 /// What the token with this role tells, `super` apart.
 #[tactic(auto, using(crate::proofs::Backward::length_back_of))]
 fn told_by_token(role: Role, run: &[Token], after: &[Token]) -> Option<ToldForm>
-    ensures { result ≡ told_by_token role (back_of run.now) (roles_of after.now) }
+    ensures value { result ≡ told_by_token role (back_of run.now) (roles_of after.now) }
+    ensures within { IfSome result (λ f. f.place ≤ length run.now) }
 {
     let at = run.len();
     match role {
@@ -189,7 +199,8 @@ fn is_super_operand(run: &[Token], role: Role, after: &[Token]) -> bool
 
 #[tactic(auto, using(crate::proofs::Backward::length_back_of))]
 fn super_before(run: &[Token], rest: &[Token]) -> Option<ToldForm>
-    ensures { result ≡ super_before (back_of run.now) (roles_of rest.now) }
+    ensures value { result ≡ super_before (back_of run.now) (roles_of rest.now) }
+    ensures within { IfSome result (λ f. f.place ≤ length run.now) }
 {
     match last_role(run) {
         None => None,
@@ -203,7 +214,8 @@ fn super_before(run: &[Token], rest: &[Token]) -> Option<ToldForm>
 
 #[tactic(auto, using(crate::proofs::Backward::length_back_of))]
 fn super_here(run: &[Token], role: Role, after: &[Token]) -> Option<ToldForm>
-    ensures { result ≡ super_here (back_of run.now) role (roles_of after.now) }
+    ensures value { result ≡ super_here (back_of run.now) role (roles_of after.now) }
+    ensures within { IfSome result (λ f. f.place ≤ length run.now) }
 {
     told_if(is_super_operand(run, role, after), Form::Super, run.len())
 }
@@ -211,13 +223,16 @@ fn super_here(run: &[Token], role: Role, after: &[Token]) -> Option<ToldForm>
 /// The form that is left out which the first token of `rest` tells behind `run`, or `None` where it tells none.
 ///
 /// `run` is the longest run of tokens with which an expression of the subset begins, and `rest` what follows it: the token
-/// that tells is its first one, and none is told where `rest` is empty. The place is an index in `run` and `rest` together.
+/// that tells is its first one, and none is told where `rest` is empty. The place is an index in `run` and `rest` together,
+/// of a token of `run` or of the first of `rest`.
 /// `None` says that the full grammar of the Language Reference doesn't go on with that token either, or that it goes on with
 /// what only the statement round the expression can tell: a `yield`, a star or a `:=` outside of all brackets.
 /// Linear in the run.
 #[tactic(auto, unfolding(crate::specs::Forms::told))]
 pub fn told(run: &[Token], rest: &[Token]) -> Option<ToldForm>
-    ensures { result ≡ told (back_of run.now) (roles_of rest.now) }
+    ensures value { result ≡ told (back_of run.now) (roles_of rest.now) }
+    ensures within { IfSome result (λ f. f.place ≤ length run.now) }
+    ensures behind { IfSome result (λ f. 0 < length rest.now) }
 {
     match first_role(rest) {
         None => None,

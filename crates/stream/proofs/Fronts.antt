@@ -1,15 +1,13 @@
 -- The fronts of bytes, and the commands with which they begin.
-use Rattle.std.proofs.Common.{◌≡◌, ◌≢◌, ◌≤◌, ℕ, false, List, [], ◌∷◌, ◌++◌, length, take, drop, refl, sym, ap, subst, ◌∙◌, arith, lit<, take-append-drop, length-append}
+use Rattle.std.proofs.Common.{◌≡◌, ◌≢◌, ◌≤◌, ℕ, List, [], ◌∷◌, ◌++◌, length, take, drop, refl, sym, ap, subst, ◌∙◌, lit<, take-append-drop}
 use Rattle.std.specs.Prelude.{All, codes, decimal}
-use Rattle.std.specs.List.{Contains, AllWithin}
-use Rattle.std.proofs.Common.{eqb}
+use Rattle.std.specs.List.{Contains}
 use Rattle.std.proofs.lemmas.List.{take_at, take-append-le}
 use Rattle.std.proofs.lemmas.List.Elements.{All-contains, Contains-append_left, Contains-append_right}
 use Rattle.script.specs.declared.command.Command.{Command}
 use Rattle.script.specs.declared.command.Command.TheVariants as commands
 use Rattle.script.specs.Grammar.{Spells, put_line, line_end, space}
 use Rattle.script.specs.Stream.{BeginsNone}
-use Rattle.stream.specs.State.{EndsInText}
 
 -- of two ways to cut the same bytes, the shorter front is a front of the longer
 pub front_of : (a b x y : List ℕ) → a ++ x ≡ b ++ y → length a ≤ length b → b ≡ a ++ drop (length a) b
@@ -34,17 +32,3 @@ inline_none bytes all = λ command rest b.
     let within : Contains ((e.0 ++ line_end ∷ []) ++ rest) line_end = Contains-append_left (e.0 ++ line_end ∷ []) rest line_end (Contains-append_right e.0 (line_end ∷ []) line_end last) in
     let has : Contains bytes line_end = subst (λ (x : List ℕ). Contains x line_end) (sym (b.parts ∙ ap (λ (t : List ℕ). t ++ rest) e.1)) within in
     All-contains (λ b. b ≢ line_end) bytes line_end all has refl
-
--- bytes of which none is told to be the end of a line
-pub none_told : (bytes : List ℕ) → AllWithin (λ b. eqb b line_end ≡ false) bytes 0 (length bytes) → All (λ b. b ≢ line_end) bytes
-none_told bytes told = λ k d lt e. (let no = told k d (omega arith) lt in let bad = rw e at no in cc)
-
--- the text of a `put` lies in its bytes
-pub ends_in_text : (bytes : List ℕ) (c : Command) → Spells 0 bytes c → EndsInText bytes c
-ends_in_text bytes (commands.Put path from len) s =
-    omega (arith, s.2, s.4, ap length s.5, length-append (put_line path len ++ s.3) (line_end ∷ []), length-append (put_line path len) s.3)
-ends_in_text bytes (commands.Drop path) s = tt
-ends_in_text bytes (commands.Ask session query) s = tt
-ends_in_text bytes commands.Sync s = tt
-ends_in_text bytes (commands.Run fuel calls draws) s = tt
-ends_in_text bytes commands.End s = tt

@@ -6,14 +6,13 @@ use Rattle.rv_io.specs.Answers.{count_of, IsPiece}
 use Rattle.rv_io.specs.declared.transfer.More.{More}
 use Rattle.rv_io.specs.declared.transfer.More.TheVariants.{Bytes, End}
 use Rattle.rv_io.specs.Moves.{Moves, LosesOne}
-use Rattle.rv_io.proofs.Steps.{Moves-nil, Moves-trans}
+use Rattle.rv_io.proofs.Steps.{Moves-trans}
 use Rattle.script.specs.declared.command.Command.{Command}
 use Rattle.script.specs.Grammar.{Spells}
-use Rattle.script.specs.Stream.{BeginsNone, IsUnfinished}
+use Rattle.script.specs.Stream.{BeginsNone}
 use Rattle.stream.specs.declared.fault.StreamFault.{StreamFault}
-use Rattle.stream.specs.declared.fault.StreamFault.TheVariants.{Malformed, ReadFault, TooLong, Memory}
-use Rattle.stream.specs.State.{IsNeeded, IsWaiting, IsCause, GainsAll, MovesOneMore}
-use Rattle.stream.specs.Steps.{Starts, Ends, IsRefusal, Waits, Lacks}
+use Rattle.stream.specs.State.{IsNeeded, IsWaiting, GainsAll, MovesOneMore}
+use Rattle.stream.specs.Steps.{Starts, Ends, Waits, Lacks}
 use Rattle.stream.specs.declared.reading.Heard.{Heard}
 use Rattle.stream.specs.declared.reading.Heard.TheVariants as heard
 use Rattle.script.specs.declared.command.Next.{Next}
@@ -32,16 +31,6 @@ pub record Reached (Same : Type 0) (left_old left_new : Option (List ℕ)) (faul
 
 true_false : (b : Bool) → b ≡ true → b ≡ false → ⊥
 true_false b t f = absurd cc
-
-pub reached_first : (Same : Type 0) → Same → (left : Option (List ℕ)) (faults : ℕ) (bytes : List ℕ) (over : Bool) → Reached Same left left faults faults bytes bytes over over false
-reached_first Same same left faults bytes over = record {
-  needed = inl refl;
-  moved = Moves-nil left bytes;
-  ended = λ goes_on ends. absurd (true_false over ends goes_on);
-  over = λ ends. (same, ends);
-  rose = λ f. absurd (true_false false f refl);
-  never_falls = omega arith;
-}
 
 -- what a buffer gained is no less than nothing
 pub moved_length : (left_old left_new : Option (List ℕ)) (old new : List ℕ) → Moves left_old left_new old new → length old ≤ length new
@@ -124,28 +113,6 @@ other_fault fault other not_so e = let is : fault ≡ other = cc in not_so (ap l
 
 pub that_fault : (fault other : StreamFault) → len_fault_is fault ≡ Err other → heard_fault_is fault ≡ Err other
 that_fault fault other e = let is : fault ≡ other = cc in ap heard_fault_is is
-
-pub refusal_cause : (rose : Type 0) (place : ℕ) (bytes : List ℕ) (over : Bool) (fault : StreamFault) → IsRefusal place bytes over fault → IsCause rose place bytes over fault
-refusal_cause rose place bytes over (Malformed at) r = r
-refusal_cause rose place bytes over ReadFault r = absurd r
-refusal_cause rose place bytes over TooLong r = absurd r
-refusal_cause rose place bytes over Memory r = tt
-
-pub refusal_short : (place : ℕ) (bytes : List ℕ) (over : Bool) (fault : StreamFault) → IsRefusal place bytes over fault → len_fault_is fault ≡ Err TooLong → ⊥
-refusal_short place bytes over (Malformed at) r e = absurd cc
-refusal_short place bytes over ReadFault r e = absurd cc
-refusal_short place bytes over TooLong r e = r
-refusal_short place bytes over Memory r e = absurd cc
-
--- malformed bytes are refused
-pub refused_by : (rose : Type 0) (place old : ℕ) (bytes pending : List ℕ) (over : Bool) (fault : StreamFault) → place ≡ old → bytes ≡ pending → IsCause rose place pending over fault
-    → (IsUnfinished 0 bytes → over ≡ true) → (fault_is fault ≡ Err Memory → ⊥) → fault_is fault ≡ Err (Malformed old)
-refused_by rose place old bytes pending over (Malformed at) same_place same cause ends memory = ap (λ n. fault_is (Malformed n)) (cause.0 ∙ same_place)
-refused_by rose place old bytes pending over ReadFault same_place same cause ends memory =
-    (let w = cause.1 in absurd (true_false over (ends (subst (IsUnfinished 0) (sym same) w.unfinished)) w.goes_on))
-refused_by rose place old bytes pending over TooLong same_place same cause ends memory =
-    (let w = cause.1 in absurd (true_false over (ends (subst (IsUnfinished 0) (sym same) w.unfinished)) w.goes_on))
-refused_by rose place old bytes pending over Memory same_place same cause ends memory = absurd (memory refl)
 
 -- bytes that a command begins are not malformed
 pub not_refused : (last pending : List ℕ) (command : Command) → Spells 0 last command → BeginsNone 0 (last ++ pending) → ⊥

@@ -75,10 +75,6 @@ pub lacks_none : (bytes more : List ℕ) (w : Wait) → Waits bytes w → Lacks 
 lacks_none bytes more (wait.Line from until) waits lacks = inline_none (bytes ++ more) lacks
 lacks_none bytes more (wait.Text until) waits lacks = until_none bytes more until waits.none waits.well lacks
 
-pub lacks_first : (bytes : List ℕ) (w : Wait) → Waits bytes w → Lacks w bytes
-lacks_first bytes (wait.Line from until) waits = (let well = waits.well in well.1)
-lacks_first bytes (wait.Text until) waits = (let well = waits.well in omega (arith, well.0))
-
 pub lacks_line : (w : Wait) (from until : ℕ) (bytes : List ℕ) (count : ℕ) → w ≡ wait.Line from until → Lacks w (take count bytes) → All (λ b. b ≢ line_end) (drop count bytes) → Lacks w bytes
 lacks_line w from until bytes count is front back =
     let before : All (λ b. b ≢ line_end) (take count bytes) = subst (λ (v : Wait). Lacks v (take count bytes)) is front in

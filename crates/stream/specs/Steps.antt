@@ -1,6 +1,5 @@
 -- What is known between two reads.
-use Rattle.std.specs.Prelude.{◌≡◌, ◌≢◌, ◌<◌, ◌≤◌, ℕ, Bool, List, length, take, All, ⊤}
-use Rattle.std.specs.Prelude.{Option}
+use Rattle.std.specs.Prelude.{◌≡◌, ◌≢◌, ◌<◌, ◌≤◌, ℕ, Bool, List, length, take, All, ⊤, Option}
 use Rattle.script.specs.declared.command.Next.{Next}
 use Rattle.script.specs.declared.command.Next.TheVariants as next
 use Rattle.script.specs.declared.command.Wait.{Wait}

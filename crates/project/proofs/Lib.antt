@@ -1,0 +1,11 @@
+pub mod Ends
+pub mod Neighbours
+pub mod Totals
+pub mod Given
+pub mod Maps
+pub mod Counts
+pub mod Projects
+pub mod Names
+pub mod Segments
+pub mod Steps
+pub mod Listed

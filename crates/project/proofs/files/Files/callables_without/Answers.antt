@@ -1,0 +1,11 @@
+use Rattle.std.proofs.Common.{◌≡◌, ℕ, ◌+◌, ◌≤◌, Option, Some, None, refl, sym, ap, ◌∙◌, subst, arith}
+use Rattle.std.specs.Map.{lookup}
+use Rattle.std.specs.BTreeMap.{is_at}
+use Rattle.rv_names.specs.Keys.{bytes_order}
+use Rattle.project.specs.Callables.{capped}
+use Rattle.project.proofs.Counts.{capped_given}
+use Rattle.std.specs.FinMap.{remove}
+use Rattle.project.proofs.files.Files.callables_without.Goals as goal
+
+pub returns : goal.returns
+returns c = c.min.ensures ∙ ap capped c.given_without.ensures ∙ capped_given (remove c.args.self.now c.args.path.now)

@@ -1,0 +1,7 @@
+pub mod Paths
+pub mod Items
+pub mod Callables
+pub mod Files
+pub mod Modules
+pub mod Edits
+pub mod Sums

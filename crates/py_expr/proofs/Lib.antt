@@ -1,0 +1,3 @@
+pub mod Fronts
+pub mod Nestings
+pub mod Texts

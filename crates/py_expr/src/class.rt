@@ -1,0 +1,365 @@
+//! The classes of tokens, as numbers: what one token of lookahead tells.
+
+ghost use Rattle.std.specs.Prelude.{◌≡◌, ◌<◌};
+ghost use Rattle.phrases.specs.Sets.{has};
+ghost use Rattle.py_ast.specs.Kinds.{name_class, number_class, text_class, part_text_class, class};
+ghost use Rattle.py_ast.specs.Tokens.{leaf_codes, unary_codes, level_codes, comparator_codes, name_codes};
+ghost use Rattle.py_ast.specs.Grammar.{string_first, atom_first, factor_first, expr_first, part_first, step_first, comparison_first, argument_first};
+
+use py_lexer::{Kind, Token, Value};
+
+pub const NAME: u8 = 1;
+
+pub const SUPER: u8 = 2;
+
+pub const NUMBER: u8 = 3;
+
+pub const TEXT: u8 = 4;
+
+pub const F_STRING_TEXT: u8 = 11;
+
+pub const F_STRING_START: u8 = 10;
+
+pub const F_STRING_END: u8 = 14;
+
+pub const FIELD_OPEN: u8 = 12;
+
+pub const FIELD_CLOSE: u8 = 13;
+
+pub const AND: u8 = 18;
+
+pub const OR: u8 = 42;
+
+pub const NOT: u8 = 41;
+
+pub const IF: u8 = 35;
+
+pub const ELSE: u8 = 29;
+
+pub const IN: u8 = 37;
+
+pub const IS: u8 = 38;
+
+pub const PLUS: u8 = 50;
+
+pub const MINUS: u8 = 51;
+
+pub const STAR: u8 = 52;
+
+pub const DOUBLE_STAR: u8 = 53;
+
+pub const SLASH: u8 = 54;
+
+pub const DOUBLE_SLASH: u8 = 55;
+
+pub const PERCENT: u8 = 56;
+
+pub const AT: u8 = 57;
+
+pub const LEFT_SHIFT: u8 = 58;
+
+pub const RIGHT_SHIFT: u8 = 59;
+
+pub const AMPERSAND: u8 = 60;
+
+pub const BAR: u8 = 61;
+
+pub const CARET: u8 = 62;
+
+pub const TILDE: u8 = 63;
+
+pub const LESS: u8 = 65;
+
+pub const GREATER: u8 = 66;
+
+pub const LESS_EQUAL: u8 = 67;
+
+pub const GREATER_EQUAL: u8 = 68;
+
+pub const DOUBLE_EQUAL: u8 = 69;
+
+pub const NOT_EQUAL: u8 = 70;
+
+pub const LEFT_PAREN: u8 = 71;
+
+pub const RIGHT_PAREN: u8 = 72;
+
+pub const LEFT_BRACKET: u8 = 73;
+
+pub const RIGHT_BRACKET: u8 = 74;
+
+pub const LEFT_BRACE: u8 = 75;
+
+pub const RIGHT_BRACE: u8 = 76;
+
+pub const COMMA: u8 = 77;
+
+pub const COLON: u8 = 78;
+
+pub const DOT: u8 = 79;
+
+pub const EQUAL: u8 = 81;
+
+pub const FALSE: u8 = 15;
+
+pub const NONE: u8 = 16;
+
+pub const TRUE: u8 = 17;
+
+pub const ELLIPSIS: u8 = 96;
+
+fn name_class(value: &Value) -> u8
+    ensures { result ≡ name_class value.now }
+{
+    match value {
+        Value::Name(name) => { if name.as_str() == "super" { 2 } else { 1 } }
+        _ => 0,
+    }
+}
+
+fn number_class(value: &Value) -> u8
+    ensures { result ≡ number_class value.now }
+{
+    match value {
+        Value::Whole(_) => 3,
+        _ => 0,
+    }
+}
+
+fn text_class(value: &Value) -> u8
+    ensures { result ≡ text_class value.now }
+{
+    match value {
+        Value::Text(_) => 4,
+        _ => 0,
+    }
+}
+
+fn part_text_class(value: &Value) -> u8
+    ensures { result ≡ part_text_class value.now }
+{
+    match value {
+        Value::Text(_) => 11,
+        _ => 0,
+    }
+}
+
+/// The class of a token.
+pub fn class_of(token: &Token) -> u8
+    ensures { result ≡ class token.now }
+{
+    match token.kind {
+        Kind::Newline => 5,
+        Kind::Indent => 6,
+        Kind::Dedent => 7,
+        Kind::Name => name_class(&token.value),
+        Kind::Number => number_class(&token.value),
+        Kind::Float => 8,
+        Kind::Text => text_class(&token.value),
+        Kind::Bytes => 9,
+        Kind::FStringStart => 10,
+        Kind::FStringText => part_text_class(&token.value),
+        Kind::FieldOpen => 12,
+        Kind::FieldClose => 13,
+        Kind::FStringEnd => 14,
+        Kind::False => 15,
+        Kind::None => 16,
+        Kind::True => 17,
+        Kind::And => 18,
+        Kind::As => 19,
+        Kind::Assert => 20,
+        Kind::Async => 21,
+        Kind::Await => 22,
+        Kind::Break => 23,
+        Kind::Class => 24,
+        Kind::Continue => 25,
+        Kind::Def => 26,
+        Kind::Del => 27,
+        Kind::Elif => 28,
+        Kind::Else => 29,
+        Kind::Except => 30,
+        Kind::Finally => 31,
+        Kind::For => 32,
+        Kind::From => 33,
+        Kind::Global => 34,
+        Kind::If => 35,
+        Kind::Import => 36,
+        Kind::In => 37,
+        Kind::Is => 38,
+        Kind::Lambda => 39,
+        Kind::Nonlocal => 40,
+        Kind::Not => 41,
+        Kind::Or => 42,
+        Kind::Pass => 43,
+        Kind::Raise => 44,
+        Kind::Return => 45,
+        Kind::Try => 46,
+        Kind::While => 47,
+        Kind::With => 48,
+        Kind::Yield => 49,
+        Kind::Plus => 50,
+        Kind::Minus => 51,
+        Kind::Star => 52,
+        Kind::DoubleStar => 53,
+        Kind::Slash => 54,
+        Kind::DoubleSlash => 55,
+        Kind::Percent => 56,
+        Kind::At => 57,
+        Kind::LeftShift => 58,
+        Kind::RightShift => 59,
+        Kind::Ampersand => 60,
+        Kind::Bar => 61,
+        Kind::Caret => 62,
+        Kind::Tilde => 63,
+        Kind::ColonEqual => 64,
+        Kind::Less => 65,
+        Kind::Greater => 66,
+        Kind::LessEqual => 67,
+        Kind::GreaterEqual => 68,
+        Kind::DoubleEqual => 69,
+        Kind::NotEqual => 70,
+        Kind::LeftParen => 71,
+        Kind::RightParen => 72,
+        Kind::LeftBracket => 73,
+        Kind::RightBracket => 74,
+        Kind::LeftBrace => 75,
+        Kind::RightBrace => 76,
+        Kind::Comma => 77,
+        Kind::Colon => 78,
+        Kind::Dot => 79,
+        Kind::Semicolon => 80,
+        Kind::Equal => 81,
+        Kind::Arrow => 82,
+        Kind::PlusEqual => 83,
+        Kind::MinusEqual => 84,
+        Kind::StarEqual => 85,
+        Kind::SlashEqual => 86,
+        Kind::DoubleSlashEqual => 87,
+        Kind::PercentEqual => 88,
+        Kind::AtEqual => 89,
+        Kind::AmpersandEqual => 90,
+        Kind::BarEqual => 91,
+        Kind::CaretEqual => 92,
+        Kind::RightShiftEqual => 93,
+        Kind::LeftShiftEqual => 94,
+        Kind::DoubleStarEqual => 95,
+        Kind::Ellipsis => 96,
+    }
+}
+
+/// Whether the class is that of an atom of one token.
+pub fn begins_leaf(class: u8) -> bool
+    ensures { result ≡ has leaf_codes class }
+{
+    class == NAME
+        || class == NUMBER
+        || class == FALSE
+        || class == NONE
+        || class == TRUE
+        || class == ELLIPSIS
+}
+
+/// Whether the class begins a string.
+pub fn begins_string(class: u8) -> bool
+    ensures { result ≡ has string_first class }
+{
+    class == TEXT || class == F_STRING_START
+}
+
+/// Whether the class begins a part of a formatted string.
+pub fn begins_part(class: u8) -> bool
+    ensures { result ≡ has part_first class }
+{
+    class == F_STRING_TEXT || class == FIELD_OPEN
+}
+
+/// Whether the class begins an atom.
+pub fn begins_atom(class: u8) -> bool
+    ensures { result ≡ has atom_first class }
+{
+    begins_leaf(class)
+        || begins_string(class)
+        || class == LEFT_PAREN
+        || class == LEFT_BRACKET
+        || class == LEFT_BRACE
+}
+
+/// Whether the class is that of a unary operator.
+pub fn begins_unary(class: u8) -> bool
+    ensures { result ≡ has unary_codes class }
+{
+    class == PLUS || class == MINUS || class == TILDE
+}
+
+/// Whether the class begins a factor.
+pub fn begins_factor(class: u8) -> bool
+    ensures { result ≡ has factor_first class }
+{
+    begins_unary(class) || begins_atom(class)
+}
+
+/// Whether the class begins an expression.
+pub fn begins_expr(class: u8) -> bool
+    ensures { result ≡ has expr_first class }
+{
+    class == NOT || begins_factor(class)
+}
+
+/// Whether the class is that of a comparison of one token.
+pub fn begins_comparator(class: u8) -> bool
+    ensures { result ≡ has comparator_codes class }
+{
+    class == LESS
+        || class == LESS_EQUAL
+        || class == GREATER
+        || class == GREATER_EQUAL
+        || class == DOUBLE_EQUAL
+        || class == NOT_EQUAL
+        || class == IN
+}
+
+/// Whether the class begins a comparison.
+pub fn begins_comparison(class: u8) -> bool
+    ensures { result ≡ has comparison_first class }
+{
+    class == NOT || class == IS || begins_comparator(class)
+}
+
+/// Whether the class begins an argument, where `keyword` says that it must have a keyword.
+pub fn begins_argument(keyword: bool, class: u8) -> bool
+    ensures { result ≡ has (argument_first keyword) class }
+{
+    if keyword {
+        class == NAME || class == SUPER
+    } else {
+        class == SUPER || begins_expr(class)
+    }
+}
+
+/// Whether the class begins a step, where `callable` says that what stands before it may be called.
+pub fn begins_step(callable: bool, class: u8) -> bool
+    ensures { result ≡ has (step_first callable) class }
+{
+    class == DOT || class == LEFT_BRACKET || (callable && class == LEFT_PAREN)
+}
+
+/// Whether the class is that of a binary operator of this level, the tightest first.
+pub fn begins_operand(level: u8, class: u8) -> bool
+    requires { level < 6 }
+    ensures { result ≡ has (level_codes level) class }
+{
+    match level {
+        0 => {
+            class == STAR
+                || class == AT
+                || class == SLASH
+                || class == DOUBLE_SLASH
+                || class == PERCENT
+        }
+        1 => class == PLUS || class == MINUS,
+        2 => class == LEFT_SHIFT || class == RIGHT_SHIFT,
+        3 => class == AMPERSAND,
+        4 => class == CARET,
+        _ => class == BAR,
+    }
+}

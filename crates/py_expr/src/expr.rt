@@ -1,0 +1,212 @@
+//! Expressions, by recursive descent: what opens a nesting without a bracket, and how the levels of the grammar lead into one another.
+//!
+//! Each function answers what the reader of its phrase does (`py_ast`'s grammar), with the same room for nestings. What stands in
+//! brackets, and what stands between operators, is read by functions that are passed the reader of one expression.
+
+ghost use Rattle.std.specs.Prelude.{◌≡◌, ◌+◌, ◌<◌, ◌≤◌, IfOk, length};
+ghost use Rattle.phrases.specs.Reading.{Read};
+ghost use Rattle.phrases.specs.Nesting.{never};
+ghost use Rattle.phrases.specs.Loops.{Gives};
+ghost use Rattle.py_ast.specs.Kinds.{class};
+ghost use Rattle.py_ast.specs.Grammar.{expr_first, primary, exponent, power, conjunction, disjunction, choice, exprs, Whole, Inversion, Factor, nested, shaped, expr};
+
+use crate::build::{as_conditional, as_power};
+use crate::class::{DOUBLE_STAR, ELSE, IF, NOT, begins_expr, class_of};
+use crate::inner::exprs_by;
+use crate::logic::disjunction_by;
+use crate::operator::comparison_by;
+use crate::parts::stands_unary;
+use crate::primary::primary_by;
+use crate::token::{Taken, make_leaf, mark, open, open_unary, stands};
+use phrases::{Fault, Stop};
+use py_ast::{Expr, Form};
+use py_lexer::Token;
+use py_literals::place::Pos;
+use sqlite_items::Boxed;
+use std::alloc::Global;
+
+/// The longest expression at the front of the tokens, with room for so many nestings, one in another.
+///
+/// Linear in the tokens that it takes.
+#[cycle(expr)]
+#[tactic(auto, using(crate::proofs::Nestings::expr_is), unfolding(py_ast::specs::Grammar::conditional))]
+pub fn expr_of(alloc: Global, tokens: &[Token], room: u8) -> Taken<'_, Expr>
+    ensures read { Gives (λ x. Read x.0 x.1.now) result ((expr room).read tokens.now) }
+    ensures shorter { IfOk result (λ x. length x.1.now < length tokens.now) }
+{
+    let (value, rest) = disjunction_of(alloc, tokens, room)?;
+    let (choice, rest) = choice_of(alloc, rest, room)?;
+    Ok((as_conditional(alloc, value, choice)?, rest))
+}
+
+/// The condition and the other value of a conditional, if it is one.
+#[cycle(expr)]
+#[tactic(auto, using(crate::proofs::Nestings::nested_is), unfolding(py_ast::specs::Grammar::choice, py_ast::specs::Grammar::otherwise))]
+fn choice_of(alloc: Global, tokens: &[Token], room: u8) -> Taken<'_, Option<(Pos, Expr, Expr)>>
+    ensures read { Gives (λ x. Read x.0 x.1.now) result ((choice room (disjunction (conjunction (shaped Inversion room))) (nested room Whole)).read tokens.now) }
+    ensures no_longer { IfOk result (λ x. length x.1.now ≤ length tokens.now) }
+{
+    if !stands(tokens, IF) {
+        return Ok((None, tokens));
+    }
+    let (at, rest) = mark(tokens, IF)?;
+    let (condition, rest) = disjunction_of(alloc, rest, room)?;
+    let (_, rest) = open(rest, ELSE, room)?;
+    let (otherwise, rest) = expr_of(alloc, rest, room - 1)?;
+    Ok((Some((at, condition, otherwise)), rest))
+}
+
+/// Operands of `or`, or one alone.
+#[cycle(expr)]
+fn disjunction_of(alloc: Global, tokens: &[Token], room: u8) -> Taken<'_, Expr>
+    ensures read { Gives (λ x. Read x.0 x.1.now) result ((disjunction (conjunction (shaped Inversion room))).read tokens.now) }
+    ensures shorter { IfOk result (λ x. length x.1.now < length tokens.now) }
+{
+    disjunction_by(
+        alloc,
+        tokens,
+        room,
+        |rest: &[Token]|
+            ensures read { Gives (λ x. Read x.0 x.1.now) result ((shaped Inversion room).read rest.now) }
+            ensures shorter { IfOk result (λ x. length x.1.now < length rest.now) }
+        { inversion_of(alloc, rest, room) },
+    )
+}
+
+/// A `not` and what it negates, or a comparison.
+#[cycle(expr)]
+#[tactic(auto, using(crate::proofs::Nestings::inversion_is, crate::proofs::Nestings::nested_is), unfolding(py_ast::specs::Grammar::inversion_over))]
+fn inversion_of(alloc: Global, tokens: &[Token], room: u8) -> Taken<'_, Expr>
+    ensures read { Gives (λ x. Read x.0 x.1.now) result ((shaped Inversion room).read tokens.now) }
+    ensures shorter { IfOk result (λ x. length x.1.now < length tokens.now) }
+{
+    if stands(tokens, NOT) {
+        let (at, rest) = open(tokens, NOT, room)?;
+        let (inner, rest) = inversion_of(alloc, rest, room - 1)?;
+        Ok((make_leaf(at, Form::Not(Boxed::new(alloc, inner)?)), rest))
+    } else {
+        comparison_by(
+            alloc,
+            tokens,
+            room,
+            |rest: &[Token]|
+                ensures read { Gives (λ x. Read x.0 x.1.now) result ((shaped Factor room).read rest.now) }
+                ensures shorter { IfOk result (λ x. length x.1.now < length rest.now) }
+            { factor_of(alloc, rest, room) },
+        )
+    }
+}
+
+/// A unary operator and its operand, or a power.
+#[cycle(expr)]
+#[tactic(auto, using(crate::proofs::Nestings::factor_is, crate::proofs::Nestings::nested_is), unfolding(py_ast::specs::Grammar::factor_over))]
+fn factor_of(alloc: Global, tokens: &[Token], room: u8) -> Taken<'_, Expr>
+    ensures read { Gives (λ x. Read x.0 x.1.now) result ((shaped Factor room).read tokens.now) }
+    ensures shorter { IfOk result (λ x. length x.1.now < length tokens.now) }
+{
+    if stands_unary(tokens) {
+        let ((operator, at), rest) = open_unary(tokens, room)?;
+        let (inner, rest) = factor_of(alloc, rest, room - 1)?;
+        Ok((
+            make_leaf(at, Form::Unary(operator, Boxed::new(alloc, inner)?)),
+            rest,
+        ))
+    } else {
+        power_of(alloc, tokens, room)
+    }
+}
+
+/// A primary, with its exponent if it has one.
+#[cycle(expr)]
+#[tactic(auto, unfolding(py_ast::specs::Grammar::power))]
+fn power_of(alloc: Global, tokens: &[Token], room: u8) -> Taken<'_, Expr>
+    ensures read { Gives (λ x. Read x.0 x.1.now) result ((power room (nested room Whole) (nested room Factor)).read tokens.now) }
+    ensures shorter { IfOk result (λ x. length x.1.now < length tokens.now) }
+{
+    let (base, rest) = primary_of(alloc, tokens, room)?;
+    let (exponent, rest) = exponent_of(alloc, rest, room)?;
+    Ok((as_power(alloc, base, exponent)?, rest))
+}
+
+/// The exponent behind a base, if it has one, and the place of its operator.
+#[cycle(expr)]
+#[tactic(auto, using(crate::proofs::Nestings::nested_is), unfolding(py_ast::specs::Grammar::exponent))]
+fn exponent_of(alloc: Global, tokens: &[Token], room: u8) -> Taken<'_, Option<(Pos, Expr)>>
+    ensures read { Gives (λ x. Read x.0 x.1.now) result ((exponent room (nested room Factor)).read tokens.now) }
+    ensures no_longer { IfOk result (λ x. length x.1.now ≤ length tokens.now) }
+{
+    if !stands(tokens, DOUBLE_STAR) {
+        return Ok((None, tokens));
+    }
+    let (at, rest) = open(tokens, DOUBLE_STAR, room)?;
+    let (exponent, rest) = factor_of(alloc, rest, room - 1)?;
+    Ok((Some((at, exponent)), rest))
+}
+
+/// A primary: an atom, and what is done to it.
+#[cycle(expr)]
+fn primary_of(alloc: Global, tokens: &[Token], room: u8) -> Taken<'_, Expr>
+    ensures read { Gives (λ x. Read x.0 x.1.now) result ((primary room (nested room Whole)).read tokens.now) }
+    ensures shorter { IfOk result (λ x. length x.1.now < length tokens.now) }
+{
+    primary_by(
+        alloc,
+        tokens,
+        room,
+        |rest: &[Token]|
+            ensures read { Gives (λ x. Read x.0 x.1.now) result ((nested room Whole).read rest.now) }
+            ensures shorter { IfOk result (λ x. length x.1.now < length rest.now) }
+        { nested_of(alloc, rest, room) },
+    )
+}
+
+/// The expression in a bracket, for which there is one nesting less.
+#[cycle(expr)]
+#[tactic(auto, using(crate::proofs::Nestings::nested_is, crate::proofs::Nestings::nested_never))]
+fn nested_of(alloc: Global, tokens: &[Token], room: u8) -> Taken<'_, Expr>
+    ensures read { Gives (λ x. Read x.0 x.1.now) result ((nested room Whole).read tokens.now) }
+    ensures shorter { IfOk result (λ x. length x.1.now < length tokens.now) }
+{
+    if room == 0 {
+        never_of(tokens)
+    } else {
+        expr_of(alloc, tokens, room - 1)
+    }
+}
+
+/// What stands in a nesting for which there is no room: the token that opens it is refused before.
+fn never_of(tokens: &[Token]) -> Taken<'_, Expr>
+    ensures read { Gives (λ x. Read x.0 x.1.now) result ((never class expr_first).read tokens.now) }
+    ensures shorter { IfOk result (λ x. length x.1.now < length tokens.now) }
+{
+    match tokens {
+        [first, ..] => {
+            if begins_expr(class_of(first)) {
+                Err(Stop::Fault(Fault::TooDeep, tokens))
+            } else {
+                Err(Stop::Fault(Fault::Syntax, tokens))
+            }
+        }
+        [] => Err(Stop::Fault(Fault::Syntax, tokens)),
+    }
+}
+
+/// Expressions between commas, with room for so many nestings in each: a tuple where there is a comma.
+///
+/// Linear in the tokens that it takes.
+#[tactic(auto, using(crate::proofs::Nestings::nested_more))]
+pub fn exprs_of(alloc: Global, tokens: &[Token], room: u8) -> Taken<'_, Expr>
+    requires { room < 255 }
+    ensures read { Gives (λ x. Read x.0 x.1.now) result ((exprs (expr room)).read tokens.now) }
+    ensures shorter { IfOk result (λ x. length x.1.now < length tokens.now) }
+{
+    exprs_by(
+        alloc,
+        tokens,
+        room + 1,
+        &|rest: &[Token]|
+            ensures read { Gives (λ x. Read x.0 x.1.now) result ((nested (room + 1) Whole).read rest.now) }
+            ensures shorter { IfOk result (λ x. length x.1.now < length rest.now) }
+        { expr_of(alloc, rest, room) },
+    )
+}

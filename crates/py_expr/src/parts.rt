@@ -1,0 +1,94 @@
+//! Productions in which no expression nests: attributes, comparisons, and what begins a larger phrase.
+
+ghost use Rattle.std.specs.Prelude.{◌≡◌, ◌<◌, ◌≤◌, ◌∷◌, [], IfOk, length};
+ghost use Rattle.phrases.specs.Sets.{has, starts};
+ghost use Rattle.phrases.specs.Reading.{Read};
+ghost use Rattle.phrases.specs.Loops.{Gives};
+ghost use Rattle.py_ast.specs.Kinds.{class};
+ghost use Rattle.py_ast.specs.Tokens.{unary_codes};
+ghost use Rattle.py_ast.specs.Grammar.{expr_first, argument_first, attribute, after_is, comparator};
+
+use crate::class::{DOT, IN, IS, NOT, begins_argument, begins_expr, begins_unary, class_of};
+use crate::token::{Taken, comparator_token, mark, name_token, stands};
+use py_ast::{Comparator, Step, StepForm};
+use py_lexer::Token;
+use py_literals::place::Pos;
+
+/// Whether an expression begins here.
+pub fn stands_expr(tokens: &[Token]) -> bool
+    ensures { result ≡ starts class expr_first tokens.now }
+{
+    match tokens {
+        [first, ..] => begins_expr(class_of(first)),
+        [] => false,
+    }
+}
+
+/// Whether a unary operator stands here.
+pub fn stands_unary(tokens: &[Token]) -> bool
+    ensures { result ≡ starts class unary_codes tokens.now }
+{
+    match tokens {
+        [first, ..] => begins_unary(class_of(first)),
+        [] => false,
+    }
+}
+
+/// Whether an argument begins here, which must have a keyword where `keyword` says so.
+pub fn stands_argument(tokens: &[Token], keyword: bool) -> bool
+    ensures { result ≡ starts class (argument_first keyword) tokens.now }
+{
+    match tokens {
+        [first, ..] => begins_argument(keyword, class_of(first)),
+        [] => false,
+    }
+}
+
+/// An attribute of a primary.
+#[tactic(auto, unfolding(py_ast::specs::Grammar::attribute, py_ast::specs::Grammar::past, py_ast::specs::Grammar::mapped))]
+pub fn attribute_of(tokens: &[Token]) -> Taken<'_, Step>
+    ensures read { Gives (λ x. Read x.0 x.1.now) result (attribute.read tokens.now) }
+    ensures shorter { IfOk result (λ x. length x.1.now < length tokens.now) }
+{
+    let (_, rest) = mark(tokens, DOT)?;
+    let (name, rest) = name_token(rest)?;
+    Ok((
+        Step {
+            node: name.at,
+            form: StepForm::Attribute(name.name),
+        },
+        rest,
+    ))
+}
+
+/// What `is` and the tokens behind it compare by.
+#[tactic(auto, unfolding(py_ast::specs::Grammar::after_is, py_ast::specs::Grammar::past))]
+pub fn after_is_of(tokens: &[Token]) -> Taken<'_, Comparator>
+    ensures read { Gives (λ x. Read x.0 x.1.now) result (after_is.read tokens.now) }
+    ensures no_longer { IfOk result (λ x. length x.1.now ≤ length tokens.now) }
+{
+    if !stands(tokens, NOT) {
+        return Ok((Comparator::Is, tokens));
+    }
+    let (_, rest) = mark(tokens, NOT)?;
+    Ok((Comparator::IsNot, rest))
+}
+
+/// A comparison, of one token or two, at its first one.
+#[tactic(auto, unfolding(py_ast::specs::Grammar::comparator))]
+pub fn comparator_of(tokens: &[Token]) -> Taken<'_, (Comparator, Pos)>
+    ensures read { Gives (λ x. Read (x.0.0, x.0.1) x.1.now) result (comparator.read tokens.now) }
+    ensures shorter { IfOk result (λ x. length x.1.now < length tokens.now) }
+{
+    if stands(tokens, NOT) {
+        let (at, rest) = mark(tokens, NOT)?;
+        let (_, rest) = mark(rest, IN)?;
+        return Ok(((Comparator::NotIn, at), rest));
+    }
+    if stands(tokens, IS) {
+        let (at, rest) = mark(tokens, IS)?;
+        let (comparator, rest) = after_is_of(rest)?;
+        return Ok(((comparator, at), rest));
+    }
+    comparator_token(tokens)
+}

@@ -1,0 +1,331 @@
+//! Primaries (Language Reference, 6.3), over a function that reads one expression inside of brackets.
+
+ghost use Rattle.std.specs.Prelude.{◌≡◌, ◌<◌, ◌≤◌, ◌∷◌, [], ℕ, List, Option, Some, None, IfOk, length, false};
+ghost use Rattle.phrases.specs.Sets.{has};
+ghost use Rattle.phrases.specs.Reading.{Read};
+ghost use Rattle.phrases.specs.Phrases.{token, nothing, sequence, either};
+ghost use Rattle.phrases.specs.Loops.{Gives};
+ghost use Rattle.py_ast.specs.Kinds.{class, mark_of};
+ghost use Rattle.py_ast.specs.Trees.{has_keyword, bare_name, keyword_argument_of, argument_of};
+ghost use Rattle.py_ast.specs.Grammar.{mapped, past, ended, second, step_first, step_next, argument_first, comma_item, comma_items, goes_past, after_argument, argument, arguments, call, subscript, step, chain, primary, Whole, nested};
+ghost use Rattle.py_expr.specs.Readers.{ReadsSome};
+
+use crate::atom::atom_by;
+use crate::build::{as_argument, as_items, as_postfix};
+use crate::class::{
+    COMMA, DOT, EQUAL, LEFT_BRACKET, LEFT_PAREN, RIGHT_BRACKET, RIGHT_PAREN, SUPER, begins_step,
+    class_of,
+};
+use crate::inner::{exprs_by, nested_by};
+use crate::parts::{attribute_of, stands_argument};
+use crate::token::{Taken, mark, name_token, open, stands, super_token};
+use phrases::{Stop, series};
+use py_ast::{Argument, Expr, NameAt, Step, StepForm};
+use py_lexer::Token;
+use py_literals::place::Pos;
+use rv_names::Memory;
+use sqlite_items::{Boxed, Items};
+use std::alloc::Global;
+
+/// A primary: an atom, and what is done to it.
+#[tactic(auto, unfolding(py_ast::specs::Grammar::primary))]
+pub fn primary_by<'a, F>(alloc: Global, tokens: &'a [Token], room: u8, inner: F) -> Taken<'a, Expr>
+where
+    F: Fn(&[Token]) -> Taken<'_, Expr>,
+    requires can_call { F.IsAlwaysCallable inner }
+    requires reads { ReadsSome (λ ts r. F.post inner ts r) (nested room Whole).read }
+    ensures read { Gives (λ x. Read x.0 x.1.now) result ((primary room (nested room Whole)).read tokens.now) }
+    ensures shorter { IfOk result (λ x. length x.1.now < length tokens.now) }
+{
+    let (base, rest) = atom_by(alloc, tokens, room, &inner)?;
+    let callable = base.is_callee();
+    let (steps, rest) = chain_by(alloc, rest, room, callable, &inner)?;
+    Ok((as_postfix(alloc, base, steps)?, rest))
+}
+
+fn chain_by<'a, F>(
+    alloc: Global,
+    tokens: &'a [Token],
+    room: u8,
+    callable: bool,
+    inner: &F,
+) -> Taken<'a, Items<Step>>
+where
+    F: Fn(&[Token]) -> Taken<'_, Expr>,
+    requires can_call { F.IsAlwaysCallable inner.now }
+    requires reads { ReadsSome (λ ts r. F.post inner.now ts r) (nested room Whole).read }
+    ensures read { Gives (λ x. Read x.0 x.1.now) result ((chain room (nested room Whole) callable).read tokens.now) }
+    ensures no_longer { IfOk result (λ x. length x.1.now ≤ length tokens.now) }
+{
+    series(
+        alloc,
+        tokens,
+        callable,
+        |callable: bool, token: &Token|
+            ensures { result ≡ has (step_first callable) (class token.now) }
+        { begins_step(callable, class_of(token)) },
+        |callable: bool, rest: &[Token]|
+            requires can_call { F.IsAlwaysCallable inner.now }
+            requires reads { ReadsSome (λ ts r. F.post inner.now ts r) (nested room Whole).read }
+            ensures read { Gives (λ x. Read x.0.0 x.1.now) result ((step room (nested room Whole) callable).read rest.now) }
+            ensures next { IfOk result (λ x. x.0.1 ≡ step_next callable x.0.0) }
+            ensures shorter { IfOk result (λ x. length x.1.now < length rest.now) }
+        { step_by(alloc, rest, room, callable, inner) },
+    )
+}
+
+#[tactic(auto, unfolding(py_ast::specs::Grammar::step))]
+fn step_by<'a, F>(
+    alloc: Global,
+    tokens: &'a [Token],
+    room: u8,
+    callable: bool,
+    inner: &F,
+) -> Taken<'a, (Step, Option<bool>)>
+where
+    F: Fn(&[Token]) -> Taken<'_, Expr>,
+    requires can_call { F.IsAlwaysCallable inner.now }
+    requires reads { ReadsSome (λ ts r. F.post inner.now ts r) (nested room Whole).read }
+    ensures read { Gives (λ x. Read x.0.0 x.1.now) result ((step room (nested room Whole) callable).read tokens.now) }
+    ensures next { IfOk result (λ x. x.0.1 ≡ step_next callable x.0.0) }
+    ensures shorter { IfOk result (λ x. length x.1.now < length tokens.now) }
+{
+    let (step, rest) = if stands(tokens, DOT) {
+        attribute_of(tokens)?
+    } else if !callable || stands(tokens, LEFT_BRACKET) {
+        subscript_by(alloc, tokens, room, inner)?
+    } else {
+        call_by(alloc, tokens, room, inner)?
+    };
+    let callable = step.is_callable();
+    Ok(((step, Some(callable)), rest))
+}
+
+#[tactic(auto, unfolding(py_ast::specs::Grammar::subscript, py_ast::specs::Grammar::ended))]
+fn subscript_by<'a, F>(alloc: Global, tokens: &'a [Token], room: u8, inner: &F) -> Taken<'a, Step>
+where
+    F: Fn(&[Token]) -> Taken<'_, Expr>,
+    requires can_call { F.IsAlwaysCallable inner.now }
+    requires reads { ReadsSome (λ ts r. F.post inner.now ts r) (nested room Whole).read }
+    ensures read { Gives (λ x. Read x.0 x.1.now) result ((subscript room (nested room Whole)).read tokens.now) }
+    ensures shorter { IfOk result (λ x. length x.1.now < length tokens.now) }
+{
+    let (node, rest) = open(tokens, LEFT_BRACKET, room)?;
+    let (index, rest) = exprs_by(alloc, rest, room, inner)?;
+    let (_, rest) = mark(rest, RIGHT_BRACKET)?;
+    let form = StepForm::Subscript(Boxed::new(alloc, index)?);
+    Ok((Step { node, form }, rest))
+}
+
+#[tactic(auto, unfolding(py_ast::specs::Grammar::call, py_ast::specs::Grammar::bracketed, py_ast::specs::Grammar::mapped, py_ast::specs::Grammar::ended))]
+fn call_by<'a, F>(alloc: Global, tokens: &'a [Token], room: u8, inner: &F) -> Taken<'a, Step>
+where
+    F: Fn(&[Token]) -> Taken<'_, Expr>,
+    requires can_call { F.IsAlwaysCallable inner.now }
+    requires reads { ReadsSome (λ ts r. F.post inner.now ts r) (nested room Whole).read }
+    ensures read { Gives (λ x. Read x.0 x.1.now) result ((call room (nested room Whole)).read tokens.now) }
+    ensures shorter { IfOk result (λ x. length x.1.now < length tokens.now) }
+{
+    let (node, rest) = open(tokens, LEFT_PAREN, room)?;
+    let (arguments, rest) = closed_arguments_by(alloc, rest, room, inner)?;
+    let form = StepForm::Call(as_items(alloc, arguments)?);
+    Ok((Step { node, form }, rest))
+}
+
+#[tactic(auto, unfolding(py_ast::specs::Grammar::mapped, py_ast::specs::Grammar::ended))]
+fn closed_arguments_by<'a, F>(
+    alloc: Global,
+    tokens: &'a [Token],
+    room: u8,
+    inner: &F,
+) -> Taken<'a, Option<(Argument, Items<(Pos, Option<Argument>)>)>>
+where
+    F: Fn(&[Token]) -> Taken<'_, Expr>,
+    requires can_call { F.IsAlwaysCallable inner.now }
+    requires reads { ReadsSome (λ ts r. F.post inner.now ts r) (nested room Whole).read }
+    ensures read { Gives (λ x. Read x.0 x.1.now) result ((either class (argument_first false) (mapped (ended (arguments (nested room Whole)) 72) Some) (sequence (token (mark_of 72)) (λ c. nothing None) second)).read tokens.now) }
+    ensures shorter { IfOk result (λ x. length x.1.now < length tokens.now) }
+{
+    if !stands_argument(tokens, false) {
+        let (_, rest) = mark(tokens, RIGHT_PAREN)?;
+        return Ok((None, rest));
+    }
+    let (items, rest) = arguments_by(alloc, tokens, room, inner)?;
+    let (_, rest) = mark(rest, RIGHT_PAREN)?;
+    Ok((Some(items), rest))
+}
+
+#[tactic(auto, unfolding(py_ast::specs::Grammar::arguments))]
+fn arguments_by<'a, F>(
+    alloc: Global,
+    tokens: &'a [Token],
+    room: u8,
+    inner: &F,
+) -> Taken<'a, (Argument, Items<(Pos, Option<Argument>)>)>
+where
+    F: Fn(&[Token]) -> Taken<'_, Expr>,
+    requires can_call { F.IsAlwaysCallable inner.now }
+    requires reads { ReadsSome (λ ts r. F.post inner.now ts r) (nested room Whole).read }
+    ensures read { Gives (λ x. Read (x.0.0, x.0.1) x.1.now) result ((arguments (nested room Whole)).read tokens.now) }
+    ensures shorter { IfOk result (λ x. length x.1.now < length tokens.now) }
+{
+    let (first, rest) = argument_by(alloc, tokens, room, false, inner)?;
+    let keyword = first.has_keyword();
+    let (others, rest) = further_arguments_by(alloc, rest, room, keyword, inner)?;
+    Ok(((first, others), rest))
+}
+
+fn further_arguments_by<'a, F>(
+    alloc: Global,
+    tokens: &'a [Token],
+    room: u8,
+    keyword: bool,
+    inner: &F,
+) -> Taken<'a, Items<(Pos, Option<Argument>)>>
+where
+    F: Fn(&[Token]) -> Taken<'_, Expr>,
+    requires can_call { F.IsAlwaysCallable inner.now }
+    requires reads { ReadsSome (λ ts r. F.post inner.now ts r) (nested room Whole).read }
+    ensures read { Gives (λ x. Read x.0 x.1.now) result ((comma_items argument_first (argument (nested room Whole)) has_keyword keyword).read tokens.now) }
+    ensures no_longer { IfOk result (λ x. length x.1.now ≤ length tokens.now) }
+{
+    series(
+        alloc,
+        tokens,
+        keyword,
+        |_keyword: bool, token: &Token|
+            ensures { result ≡ has (77 ∷ []) (class token.now) }
+        { class_of(token) == COMMA },
+        |keyword: bool, rest: &[Token]|
+            requires can_call { F.IsAlwaysCallable inner.now }
+            requires reads { ReadsSome (λ ts r. F.post inner.now ts r) (nested room Whole).read }
+            ensures read { Gives (λ x. Read x.0.0 x.1.now) result ((comma_item (argument_first keyword) (argument (nested room Whole) keyword)).read rest.now) }
+            ensures next { IfOk result (λ x. x.0.1 ≡ goes_past has_keyword x.0.0) }
+            ensures shorter { IfOk result (λ x. length x.1.now < length rest.now) }
+        { further_argument_by(alloc, rest, room, keyword, inner) },
+    )
+}
+
+#[tactic(auto, unfolding(py_ast::specs::Grammar::comma_item, py_ast::specs::Grammar::mapped))]
+fn further_argument_by<'a, F>(
+    alloc: Global,
+    tokens: &'a [Token],
+    room: u8,
+    keyword: bool,
+    inner: &F,
+) -> Taken<'a, ((Pos, Option<Argument>), Option<bool>)>
+where
+    F: Fn(&[Token]) -> Taken<'_, Expr>,
+    requires can_call { F.IsAlwaysCallable inner.now }
+    requires reads { ReadsSome (λ ts r. F.post inner.now ts r) (nested room Whole).read }
+    ensures read { Gives (λ x. Read x.0.0 x.1.now) result ((comma_item (argument_first keyword) (argument (nested room Whole) keyword)).read tokens.now) }
+    ensures next { IfOk result (λ x. x.0.1 ≡ goes_past has_keyword x.0.0) }
+    ensures shorter { IfOk result (λ x. length x.1.now < length tokens.now) }
+{
+    let (at, rest) = mark(tokens, COMMA)?;
+    if !stands_argument(rest, keyword) {
+        return Ok((((at, None), None), rest));
+    }
+    let (argument, rest) = argument_by(alloc, rest, room, keyword, inner)?;
+    let next = argument.has_keyword();
+    Ok((((at, Some(argument)), Some(next)), rest))
+}
+
+#[tactic(auto, unfolding(py_ast::specs::Grammar::argument, py_ast::specs::Grammar::keyword_argument, py_ast::specs::Grammar::past, py_ast::specs::Grammar::mapped))]
+fn argument_by<'a, F>(
+    alloc: Global,
+    tokens: &'a [Token],
+    room: u8,
+    keyword: bool,
+    inner: &F,
+) -> Taken<'a, Argument>
+where
+    F: Fn(&[Token]) -> Taken<'_, Expr>,
+    requires can_call { F.IsAlwaysCallable inner.now }
+    requires reads { ReadsSome (λ ts r. F.post inner.now ts r) (nested room Whole).read }
+    ensures read { Gives (λ x. Read x.0 x.1.now) result ((argument (nested room Whole) keyword).read tokens.now) }
+    ensures shorter { IfOk result (λ x. length x.1.now < length tokens.now) }
+{
+    if keyword {
+        let (name, rest) = name_token(tokens)?;
+        return keyword_argument_by(alloc, rest, room, name, inner);
+    }
+    if stands(tokens, SUPER) {
+        let (name, rest) = super_token(tokens)?;
+        return keyword_argument_by(alloc, rest, room, name, inner);
+    }
+    plain_argument_by(alloc, tokens, room, inner)
+}
+
+#[tactic(auto, unfolding(py_ast::specs::Grammar::past, py_ast::specs::Grammar::mapped))]
+fn keyword_argument_by<'a, F>(
+    alloc: Global,
+    tokens: &'a [Token],
+    room: u8,
+    name: NameAt,
+    inner: &F,
+) -> Taken<'a, Argument>
+where
+    F: Fn(&[Token]) -> Taken<'_, Expr>,
+    requires can_call { F.IsAlwaysCallable inner.now }
+    requires reads { ReadsSome (λ ts r. F.post inner.now ts r) (nested room Whole).read }
+    ensures read { Gives (λ x. Read x.0 x.1.now) result ((mapped (past 81 (nested room Whole)) (λ e. keyword_argument_of name e)).read tokens.now) }
+    ensures shorter { IfOk result (λ x. length x.1.now < length tokens.now) }
+{
+    let (_, rest) = mark(tokens, EQUAL)?;
+    let (value, rest) = nested_by(rest, room, inner)?;
+    Ok((
+        Argument {
+            keyword: Some(name),
+            value,
+        },
+        rest,
+    ))
+}
+
+fn plain_argument_by<'a, F>(
+    alloc: Global,
+    tokens: &'a [Token],
+    room: u8,
+    inner: &F,
+) -> Taken<'a, Argument>
+where
+    F: Fn(&[Token]) -> Taken<'_, Expr>,
+    requires can_call { F.IsAlwaysCallable inner.now }
+    requires reads { ReadsSome (λ ts r. F.post inner.now ts r) (nested room Whole).read }
+    ensures read { Gives (λ x. Read x.0 x.1.now) result ((sequence (nested room Whole) (λ e. after_argument (nested room Whole) (bare_name e)) argument_of).read tokens.now) }
+    ensures shorter { IfOk result (λ x. length x.1.now < length tokens.now) }
+{
+    let (first, rest) = nested_by(tokens, room, inner)?;
+    let name = match first.bare_name() {
+        Ok(name) => name,
+        Err(Memory) => return Err(Stop::Memory),
+    };
+    let (keyword, rest) = after_argument_by(alloc, rest, room, name, inner)?;
+    Ok((as_argument(first, keyword), rest))
+}
+
+#[tactic(auto, unfolding(py_ast::specs::Grammar::after_argument, py_ast::specs::Grammar::past, py_ast::specs::Grammar::mapped))]
+fn after_argument_by<'a, F>(
+    alloc: Global,
+    tokens: &'a [Token],
+    room: u8,
+    name: Option<NameAt>,
+    inner: &F,
+) -> Taken<'a, Option<(NameAt, Expr)>>
+where
+    F: Fn(&[Token]) -> Taken<'_, Expr>,
+    requires can_call { F.IsAlwaysCallable inner.now }
+    requires reads { ReadsSome (λ ts r. F.post inner.now ts r) (nested room Whole).read }
+    ensures read { Gives (λ x. Read x.0 x.1.now) result ((after_argument (nested room Whole) name).read tokens.now) }
+    ensures no_longer { IfOk result (λ x. length x.1.now ≤ length tokens.now) }
+{
+    match name {
+        Some(name) if stands(tokens, EQUAL) => {
+            let (_, rest) = mark(tokens, EQUAL)?;
+            let (value, rest) = nested_by(rest, room, inner)?;
+            Ok((Some((name, value)), rest))
+        }
+        _ => Ok((None, tokens)),
+    }
+}
