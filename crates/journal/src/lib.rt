@@ -8,6 +8,8 @@
 mod edit;
 mod faults;
 mod journal;
+#[cfg(test)]
+mod tests;
 
 pub use edit::ReadEdit;
 pub use faults::EditFault;
