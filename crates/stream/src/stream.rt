@@ -72,6 +72,13 @@ impl Stream {
         &self.bytes[self.last..self.start]
     }
 
+    /// The bytes that were read and not acted on. The first of them is at `place`.
+    pub fn pending(&self) -> &[u8]
+        ensures { result.now ≡ self.now.pending }
+    {
+        &self.bytes[self.start..]
+    }
+
     /// How many bytes of the input, from 0, stand before those that were not acted on.
     pub fn place(&self) -> usize
         ensures { result ≡ self.now.place }

@@ -33,7 +33,9 @@ fn check_reading(rt: &impl Abort, alloc: Global, reading: &Reading) -> Result<()
             }
             Err(fault) => assert_eq!(rt; Err(fault), *answer),
         }
-        assert!(rt; stream.place() <= reading.input.len());
+        let place = stream.place();
+        assert!(rt; place <= reading.input.len());
+        assert!(rt; reading.input[place..].starts_with(stream.pending()));
     }
     Ok(())
 }
