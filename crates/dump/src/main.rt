@@ -2,19 +2,27 @@
 //!
 //! `tokens` prints the tokens of a Python text, one a line, and `count` only how many there are. A text without tokens gives the
 //! line `fault KIND LINE:COL` and status 1. `script` reads a script in the pieces in which it comes, and prints how many commands it
-//! has; where none begins it gives the line `malformed PLACE` and status 1. `chain N`, `diamond N` and `loop N` read nothing, solve
+//! has; where none begins it gives the line `malformed PLACE` and status 1. `trees` prints the tree of the expression with which a
+//! Python text begins, and where that isn't the whole first line `rest LINE:COL` and status 1. `models` reads a model file, asks what
+//! it declares of each of its names, and prints how many models, names, leaves and notes there are. `chain N`, `diamond N` and `loop N` read nothing, solve
 //! a system of rows of that shape and about that many rows, and print how many of its nodes a source reaches. Other words give the
 //! usage line and status 2.
 #![tactic(auto)]
 
-ghost use Rattle.std.specs.Prelude.{◌≤◌, IfSome};
+ghost use Rattle.std.specs.Prelude.{◌≤◌, ◌<◌, ◌^◌, length, IfSome};
 
 mod commands;
+mod models;
+mod reading;
+mod statements;
 mod systems;
 mod tokens;
+mod trees;
 
 use commands::{Uncounted, count_commands};
+use models::{Undeclared, count_declared};
 use py_lexer::{LexError, lex};
+use reading::print_trees;
 use rv_io::StdSource;
 use std::env;
 use std::io::{self, BufWriter, Read, Write};
@@ -33,6 +41,8 @@ enum Word {
     Tokens,
     Count,
     Script,
+    Trees,
+    Models,
 }
 
 /// The word that the program is called with, if it is one of its words, and alone.
@@ -42,6 +52,8 @@ fn word_of(words: &[String]) -> Option<Word> {
             "tokens" => Some(Word::Tokens),
             "count" => Some(Word::Count),
             "script" => Some(Word::Script),
+            "trees" => Some(Word::Trees),
+            "models" => Some(Word::Models),
             _ => None,
         },
         _ => None,
@@ -108,13 +120,10 @@ fn count_script(rt: &HostRuntime) -> Result<ExitCode, io::Error> {
 }
 
 /// Prints the tokens of a text, or how many there are.
-fn lex_text(rt: &HostRuntime, word: Word) -> Result<ExitCode, io::Error> {
-    let text = io::read_to_string(rt.alloc(), rt.reader())?;
-    if text.len() > LONGEST_TEXT {
-        println!(rt; "too long")?;
-        return Ok(ExitCode::from(2));
-    }
-    match lex(rt.alloc(), text.as_str()) {
+fn lex_text(rt: &HostRuntime, word: Word, text: &str) -> Result<ExitCode, io::Error>
+    requires { length text.now < 2 ^ 31 }
+{
+    match lex(rt.alloc(), text) {
         Ok(all) => {
             if word == Word::Count {
                 println!(rt; "tokens {}", all.len())?;
@@ -136,18 +145,54 @@ fn lex_text(rt: &HostRuntime, word: Word) -> Result<ExitCode, io::Error> {
     }
 }
 
+/// Prints what a model file declares.
+fn read_declared(rt: &HostRuntime, text: &str) -> Result<ExitCode, io::Error>
+    requires { length text.now < 2 ^ 31 }
+{
+    match count_declared(rt.alloc(), text) {
+        Ok(counts) => {
+            print!(rt; "models {} found {} ", counts.models, counts.asked)?;
+            println!(rt; "leaves {} notes {}", counts.leaves, counts.notes)?;
+            Ok(ExitCode::from(0))
+        }
+        Err(Undeclared::Refused) => {
+            println!(rt; "refused")?;
+            Ok(ExitCode::from(1))
+        }
+        Err(Undeclared::Memory) => {
+            println!(rt; "out of memory")?;
+            Ok(ExitCode::from(3))
+        }
+    }
+}
+
+/// Answers a word over the text of standard input.
+fn answer_text(rt: &HostRuntime, word: Word) -> Result<ExitCode, io::Error> {
+    let text = io::read_to_string(rt.alloc(), rt.reader())?;
+    if text.len() > LONGEST_TEXT {
+        println!(rt; "too long")?;
+        return Ok(ExitCode::from(2));
+    }
+    match word {
+        Word::Models => read_declared(rt, text.as_str()),
+        Word::Trees => print_trees(rt, text.as_str()),
+        _ => lex_text(rt, word, text.as_str()),
+    }
+}
+
 fn main(rt: HostRuntime) -> Result<ExitCode, io::Error> {
     let words = env::args(&rt)?.skip(1).collect::<Vec<String>>(rt.alloc())?;
     if let Some((shape, size)) = system_of(&words) {
         return solve_system(&rt, shape, size);
     }
     let Some(word) = word_of(&words) else {
-        println!(rt; "usage: dump tokens | count | script | chain N | diamond N | loop N")?;
+        println!(rt;
+            "usage: dump tokens | count | trees | models | script | chain N | diamond N | loop N"
+        )?;
         return Ok(ExitCode::from(2));
     };
     match word {
         Word::Script => count_script(&rt),
-        Word::Tokens => lex_text(&rt, word),
-        Word::Count => lex_text(&rt, word),
+        _ => answer_text(&rt, word),
     }
 }

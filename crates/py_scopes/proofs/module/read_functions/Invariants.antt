@@ -1,0 +1,12 @@
+use Rattle.std.proofs.Common.{◌≡◌, ◌++◌, map, drop}
+use Rattle.std.specs.List.{flat_map, fold}
+use Rattle.py_ast.specs.ScopeFaults.{sooner, functions, function_faults}
+use Rattle.py_scopes.specs.Names.{is_variable_of}
+use Rattle.py_scopes.specs.Scopes.{function_scope}
+use Rattle.py_scopes.proofs.module.read_functions.Given as goal
+
+abbrev pub invariant-loop-stmt : goal.invariant-loop-stmt
+invariant-loop-stmt l =
+    let faults = function_faults (λ n. is_variable_of n l.globals) in
+    (l.found ++ map (function_scope l.method) (functions (drop l.stmt-index l.stmts)) ≡ l.initial.found ++ map (function_scope l.method) (functions l.stmts))
+    × (fold sooner l.fault (flat_map faults (functions (drop l.stmt-index l.stmts))) ≡ fold sooner l.initial.fault (flat_map faults (functions l.stmts)))

@@ -1,0 +1,4 @@
+pub mod Facts
+pub mod Names
+pub mod Kept
+pub mod Scopes

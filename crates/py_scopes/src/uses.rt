@@ -1,0 +1,199 @@
+//! The names that expressions use.
+
+ghost use Rattle.std.specs.Prelude.{◌≡◌, ◌++◌, ◌∷◌, [], true, OnOk, map};
+ghost use Rattle.std.specs.List.{flat_map};
+ghost use Rattle.py_ast.specs.Uses.{used, used_in, as_other, together, base_how, chained_how, calls_in, used_in_steps, used_in_part, used_in_argument, used_in_compared, used_in_joined, used_in_operand, used_in_pair, used_in_step};
+
+use py_ast::{
+    Argument, Compared, Expr, Form, How, Joined, Operand, Pair, Part, Step, StepForm, Use,
+};
+use py_literals::place::Pos;
+use rv_names::{Memory, Name};
+use sqlite_items::Items;
+
+/// Whether the step is a call.
+pub fn is_call(step: &Step) -> bool
+    ensures { result ≡ (used_in_step step.now).0 }
+{
+    matches!(&step.form, StepForm::Call(_))
+}
+
+/// How a chain with these steps uses what it begins with.
+pub fn base_how(steps: &[Step]) -> How
+    ensures { result ≡ base_how (calls_in (map used_in_step steps.now)) }
+{
+    match steps {
+        [] => How::Other,
+        [first, ..] if is_call(first) => How::Called,
+        [_, second, ..] if is_call(second) => How::Receiver,
+        _ => How::Read,
+    }
+}
+
+/// The same of a chain that is called itself.
+fn called_how(steps: &[Step]) -> How
+    ensures { result ≡ base_how (calls_in (map used_in_step steps.now) ++ true ∷ []) }
+{
+    match steps {
+        [] => How::Called,
+        [first, ..] if is_call(first) => How::Called,
+        [_] => How::Receiver,
+        [_, second, ..] if is_call(second) => How::Receiver,
+        _ => How::Read,
+    }
+}
+
+/// How a chain that is used so uses what it begins with.
+fn chained_how(how: How, steps: &[Step]) -> How
+    ensures { result ≡ chained_how how (calls_in (map used_in_step steps.now)) }
+{
+    match how {
+        How::Called => called_how(steps),
+        _ => base_how(steps),
+    }
+}
+
+fn name(name: &Name, at: Pos, how: How, found: &mut Items<Use>) -> Result<(), Memory>
+    ensures { OnOk result (found.new ≡ found.old ++ used name.now at how ∷ []) }
+{
+    let name = name.copy()?;
+    found.push(Use { name, at, how })?;
+    Ok(())
+}
+
+/// Adds the names that the expression uses, itself being used so. Only what nests in the expression recurses.
+#[cycle(uses)]
+pub fn expression(expr: &Expr, how: How, found: &mut Items<Use>) -> Result<(), Memory>
+    ensures { OnOk result (found.new ≡ found.old ++ used_in expr.now how) }
+{
+    match &expr.form {
+        Form::Name(text) => name(text, expr.node, how, found),
+        Form::Number(_) | Form::Text(_) | Form::Constant(_) => Ok(()),
+        Form::Formatted(fields) => parts(fields.as_slice(), found),
+        Form::Tuple(items) | Form::List(items) => expressions(items.as_slice(), found),
+        Form::Dictionary(items) => pairs(items.as_slice(), found),
+        Form::Conditional(value, condition, otherwise) => {
+            expression(value.get(), How::Other, found)?;
+            expression(condition.get(), How::Other, found)?;
+            expression(otherwise.get(), How::Other, found)
+        }
+        Form::Or(first, others) | Form::And(first, others) => {
+            expression(first.get(), How::Other, found)?;
+            joined(others.as_slice(), found)
+        }
+        Form::Not(operand) | Form::Unary(_, operand) => {
+            expression(operand.get(), How::Other, found)
+        }
+        Form::Comparison(first, others) => {
+            expression(first.get(), How::Other, found)?;
+            compared(others.as_slice(), found)
+        }
+        Form::Binary(first, others) => {
+            expression(first.get(), How::Other, found)?;
+            operands(others.as_slice(), found)
+        }
+        Form::Power(base, exponent) => {
+            expression(base.get(), How::Other, found)?;
+            expression(exponent.get(), How::Other, found)
+        }
+        Form::Postfix(base, links) => {
+            expression(base.get(), chained_how(how, links.as_slice()), found)?;
+            steps(links.as_slice(), found)
+        }
+    }
+}
+
+#[cycle(uses)]
+fn expressions(exprs: &[Expr], found: &mut Items<Use>) -> Result<(), Memory>
+    ensures { OnOk result (found.new ≡ found.old ++ flat_map as_other (map used_in exprs.now)) }
+{
+    for expr in exprs {
+        expression(expr, How::Other, found)?;
+    }
+    Ok(())
+}
+
+#[cycle(uses)]
+fn parts(items: &[Part], found: &mut Items<Use>) -> Result<(), Memory>
+    ensures { OnOk result (found.new ≡ found.old ++ together (map used_in_part items.now)) }
+{
+    for item in items {
+        if let Part::Field(expr) = item {
+            expression(expr, How::Other, found)?;
+        }
+    }
+    Ok(())
+}
+
+#[cycle(uses)]
+fn pairs(items: &[Pair], found: &mut Items<Use>) -> Result<(), Memory>
+    ensures { OnOk result (found.new ≡ found.old ++ together (map used_in_pair items.now)) }
+{
+    for item in items {
+        expression(&item.key, How::Other, found)?;
+        expression(&item.value, How::Other, found)?;
+    }
+    Ok(())
+}
+
+#[cycle(uses)]
+fn joined(items: &[Joined], found: &mut Items<Use>) -> Result<(), Memory>
+    ensures { OnOk result (found.new ≡ found.old ++ together (map used_in_joined items.now)) }
+{
+    for item in items {
+        expression(&item.value, How::Other, found)?;
+    }
+    Ok(())
+}
+
+#[cycle(uses)]
+fn compared(items: &[Compared], found: &mut Items<Use>) -> Result<(), Memory>
+    ensures { OnOk result (found.new ≡ found.old ++ together (map used_in_compared items.now)) }
+{
+    for item in items {
+        expression(&item.value, How::Other, found)?;
+    }
+    Ok(())
+}
+
+#[cycle(uses)]
+fn operands(items: &[Operand], found: &mut Items<Use>) -> Result<(), Memory>
+    ensures { OnOk result (found.new ≡ found.old ++ together (map used_in_operand items.now)) }
+{
+    for item in items {
+        expression(&item.value, How::Other, found)?;
+    }
+    Ok(())
+}
+
+#[cycle(uses)]
+fn arguments(items: &[Argument], found: &mut Items<Use>) -> Result<(), Memory>
+    ensures { OnOk result (found.new ≡ found.old ++ together (map used_in_argument items.now)) }
+{
+    for item in items {
+        expression(&item.value, How::Other, found)?;
+    }
+    Ok(())
+}
+
+/// Adds the names that are used in the steps of a chain.
+#[cycle(uses)]
+pub fn steps(items: &[Step], found: &mut Items<Use>) -> Result<(), Memory>
+    ensures { OnOk result (found.new ≡ found.old ++ used_in_steps (map used_in_step items.now)) }
+{
+    for item in items {
+        step(item, found)?;
+    }
+    Ok(())
+}
+
+#[cycle(uses)]
+fn step(step: &Step, found: &mut Items<Use>) -> Result<(), Memory>
+    ensures { OnOk result (found.new ≡ found.old ++ (used_in_step step.now).1) }
+{
+    match &step.form {
+        StepForm::Attribute(_) => Ok(()),
+        StepForm::Subscript(index) => expression(index.get(), How::Other, found),
+        StepForm::Call(given) => arguments(given.as_slice(), found),
+    }
+}
