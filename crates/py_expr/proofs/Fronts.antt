@@ -1,5 +1,5 @@
 -- What is read of the front of a list of tokens is judged.
-use Rattle.std.proofs.Common.{◌≡◌, ℕ, ◌+◌, ◌-◌, List, [], ◌∷◌, ◌++◌, length, take, drop, get_or, ◌<◌, Result, Ok, None, Err, refl, sym, ap, subst, ◌∙◌, arith}
+use Rattle.std.proofs.Common.{◌≡◌, ℕ, ◌+◌, ◌-◌, List, [], ◌∷◌, ◌++◌, length, take, get_or, ◌<◌, Result, Ok, Err, sym, ap, subst, ◌∙◌, arith}
 use Rattle.std.proofs.lemmas.List.{take_at, length-append}
 use Rattle.std.specs.Borrow.{Bor}
 use Rattle.phrases.specs.Loops.{Gives}
@@ -14,7 +14,7 @@ use Rattle.py_lexer.specs.declared.token.Token.{Token}
 use Rattle.py_ast.specs.declared.tree.Expr.{Expr}
 use Rattle.py_ast.specs.Grammar.{expr}
 use Rattle.py_ast.proofs.Expressions.{expr-means}
-use Rattle.py_expr.specs.Judged.{deepest, Meant, IsFront, whole, unfinished, IsStop, IsPlain, IsTold, StandsAt, IsExpression, IsUnsupported, IsSyntax, IsTooDeep}
+use Rattle.py_expr.specs.Judged.{deepest, Meant, whole, unfinished, IsStop, IsPlain, IsTold, StandsAt, IsExpression, IsUnsupported, IsSyntax, IsTooDeep}
 
 pub longest_read : (ts : List Token) (e : Expr) (y : List Token) → (expr deepest).read ts ≡ Read e y → Longest expr deepest ts e y
 longest_read ts e y h = subst (Means expr deepest ts) h (expr-means deepest ts)

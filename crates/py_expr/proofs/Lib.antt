@@ -1,3 +1,4 @@
 pub mod Fronts
 pub mod Nestings
+pub mod OneAnswer
 pub mod Texts

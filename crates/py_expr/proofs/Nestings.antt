@@ -1,5 +1,5 @@
 -- What stands in a nesting has one less room; and so many levels of operators are one over the tighter ones.
-use Rattle.std.proofs.Common.{◌≡◌, ℕ, zero, suc, ◌+◌, ◌-◌, ◌<◌, List, refl, arith}
+use Rattle.std.proofs.Common.{◌≡◌, ℕ, suc, ◌+◌, ◌-◌, ◌<◌, List, refl, arith}
 use Rattle.phrases.specs.Nesting.{never}
 use Rattle.py_lexer.specs.declared.token.Token.{Token}
 use Rattle.py_ast.specs.Kinds.{class}

@@ -1,5 +1,5 @@
 -- What is answered of the tokens from a place on: the expression there, or the fault, and where it stands.
-use Rattle.std.specs.Prelude.{◌≡◌, ℕ, ◌+◌, ◌-◌, List, [], ◌∷◌, ◌++◌, length, drop, Option, Some, None, Result, Ok, Err, MatchOption}
+use Rattle.std.specs.Prelude.{◌≡◌, ℕ, ◌+◌, ◌-◌, List, [], ◌∷◌, ◌++◌, length, drop, Some, None, Result, Ok, Err}
 use Rattle.std.specs.Borrow.{Bor}
 use Rattle.phrases.specs.Verdict.{Longest, StopsAt, TooDeepAt}
 use Rattle.phrases.specs.declared.fault.Fault.TheVariants as faults
@@ -85,3 +85,7 @@ Judged at ts (Err (Unsupported form place)) = IsUnsupported ts form place
 Judged at ts (Err (TooDeep place)) = IsTooDeep ts place
 Judged at ts (Err (Syntax place)) = IsSyntax ts place
 Judged at ts (Err Memory) = Unit {0}
+
+-- what is answered of the tokens where memory doesn't run out
+abbrev pub Answers : ℕ → List Token → Result (Expr × ℕ) SyntaxError → Type 0
+Answers at ts r = Judged at ts r × (r ≡ Err Memory → ⊥)

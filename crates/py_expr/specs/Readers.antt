@@ -1,5 +1,5 @@
 -- What a function that is passed in reads.
-use Rattle.std.specs.Prelude.{ℕ, ◌<◌, List, length, Result, IfOk}
+use Rattle.std.specs.Prelude.{◌<◌, List, length, Result, IfOk}
 use Rattle.std.specs.Borrow.{Bor}
 use Rattle.phrases.specs.Reading.{Outcome, Read}
 use Rattle.phrases.specs.Loops.{Gives}

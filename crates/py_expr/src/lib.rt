@@ -12,7 +12,8 @@
 //! * `class`: the classes of tokens, as one token of lookahead tells them;
 //! * `token`: single tokens;
 //! * `build`: the nodes of productions, made of their parts;
-//! * `strings`: strings in a row.
+//! * `strings`: strings in a row;
+//! * `laws`: what holds of the answers.
 #![tactic(auto)]
 
 mod atom;
@@ -21,6 +22,7 @@ pub mod class;
 pub mod error;
 pub mod expr;
 mod inner;
+pub mod laws;
 mod logic;
 mod operator;
 pub mod parts;
