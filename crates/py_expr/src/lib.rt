@@ -33,6 +33,3 @@ pub mod token;
 
 pub use error::SyntaxError;
 pub use reading::expression;
-
-#[cfg(test)]
-mod tests;
