@@ -17,7 +17,7 @@ SIZE = 10_000
 
 def declaration(number):
     named = number - 1 if number % 10 == 1 else number
-    name = f"library.module{named % 97}.call{named}"
+    name = f"library.module{named % 90 + 10}.call{named:05}"
     if number % 3 == 0:
         return f"def {name}() -> TaintSource[UserControlled]: ...\n"
     if number % 3 == 1:
