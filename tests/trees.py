@@ -1,5 +1,5 @@
 #!/usr/bin/env python3
-"""The trees of `dump trees` for a table of expressions: their shape, names, constants and places against CPython's own `ast`, and
+"""The trees of `dump expression` for a table of expressions: their shape, names, constants and places against CPython's own `ast`, and
 each refusal at the place that is written here.
 
 The accepted texts are the productions of expressions with and without their optional parts, and each pair of operators beside each
@@ -147,7 +147,7 @@ KINDS = [
 
 
 def printed(text):
-    done = subprocess.run([DUMP, "trees"], input=text.encode("utf-8", "surrogatepass"), stdout=subprocess.PIPE, check=False)
+    done = subprocess.run([DUMP, "expression"], input=text.encode("utf-8", "surrogatepass"), stdout=subprocess.PIPE, check=False)
     return done.returncode, done.stdout.decode("utf-8", "surrogatepass")
 
 

@@ -2,8 +2,9 @@
 //!
 //! `tokens` prints the tokens of a Python text, one a line, and `count` only how many there are. A text without tokens gives the
 //! line `fault KIND LINE:COL` and status 1. `script` reads a script in the pieces in which it comes, and prints how many commands it
-//! has; where none begins it gives the line `malformed PLACE` and status 1. `trees` prints the tree of the expression with which a
-//! Python text begins, and where that isn't the whole first line `rest LINE:COL` and status 1. `models` reads a model file, asks what
+//! has; where none begins it gives the line `malformed PLACE` and status 1. `expression` prints the tree of the expression with which a
+//! Python text begins, and where that isn't the whole first line `rest LINE:COL` and status 1. `trees` prints the tree of a Python file, and
+//! `scopes` the names that each of its functions owns; a fault is a line `fault KIND LINE:COL` and status 1. `models` reads a model file, asks what
 //! it declares of each of its names, and prints how many models, names, leaves and notes there are. `chain N`, `diamond N` and `loop N` read nothing, solve
 //! a system of rows of that shape and about that many rows, and print how many of its nodes a source reaches. Other words give the
 //! usage line and status 2.
@@ -14,6 +15,7 @@ ghost use Rattle.std.specs.Prelude.{◌≤◌, ◌<◌, ◌^◌, length, IfSome}
 mod commands;
 mod models;
 mod reading;
+mod scopes;
 mod statements;
 mod systems;
 mod tokens;
@@ -22,8 +24,9 @@ mod trees;
 use commands::{Uncounted, count_commands};
 use models::{Undeclared, count_declared};
 use py_lexer::{LexError, lex};
-use reading::print_trees;
+use reading::{print_expression, print_trees};
 use rv_io::StdSource;
+use scopes::print_scopes;
 use std::env;
 use std::io::{self, BufWriter, Read, Write};
 use std::process::ExitCode;
@@ -41,7 +44,9 @@ enum Word {
     Tokens,
     Count,
     Script,
+    Expression,
     Trees,
+    Scopes,
     Models,
 }
 
@@ -52,7 +57,9 @@ fn word_of(words: &[String]) -> Option<Word> {
             "tokens" => Some(Word::Tokens),
             "count" => Some(Word::Count),
             "script" => Some(Word::Script),
+            "expression" => Some(Word::Expression),
             "trees" => Some(Word::Trees),
+            "scopes" => Some(Word::Scopes),
             "models" => Some(Word::Models),
             _ => None,
         },
@@ -175,7 +182,9 @@ fn answer_text(rt: &HostRuntime, word: Word) -> Result<ExitCode, io::Error> {
     }
     match word {
         Word::Models => read_declared(rt, text.as_str()),
+        Word::Expression => print_expression(rt, text.as_str()),
         Word::Trees => print_trees(rt, text.as_str()),
+        Word::Scopes => print_scopes(rt, text.as_str()),
         _ => lex_text(rt, word, text.as_str()),
     }
 }
@@ -187,7 +196,7 @@ fn main(rt: HostRuntime) -> Result<ExitCode, io::Error> {
     }
     let Some(word) = word_of(&words) else {
         println!(rt;
-            "usage: dump tokens | count | trees | models | script | chain N | diamond N | loop N"
+            "usage: dump tokens | count | expression | trees | scopes | models | script | chain N | diamond N | loop N"
         )?;
         return Ok(ExitCode::from(2));
     };

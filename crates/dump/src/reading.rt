@@ -1,12 +1,14 @@
-//! The tree of an expression, or its fault.
+//! The tree of a file or of an expression, or its fault.
 
 ghost use Rattle.std.specs.Prelude.{◌<◌, ◌^◌, length};
 
+use crate::statements::write_module;
 use crate::trees::write_expr;
 use py_ast::Expr;
 use py_expr::{SyntaxError, expression};
 use py_lexer::{Kind, LexError, Token, lex};
 use py_literals::place::Pos;
+use py_parser::{FileError, parse};
 use std::io::{self, BufWriter, Write};
 use std::process::ExitCode;
 
@@ -63,7 +65,7 @@ fn read_tokens(rt: &HostRuntime, tokens: &[Token]) -> Result<ExitCode, io::Error
 }
 
 /// Prints the tree of the expression with which a text begins, or its fault.
-pub fn print_trees(rt: &HostRuntime, text: &str) -> Result<ExitCode, io::Error>
+pub fn print_expression(rt: &HostRuntime, text: &str) -> Result<ExitCode, io::Error>
     requires { length text.now < 2 ^ 31 }
 {
     match lex(rt.alloc(), text) {
@@ -76,5 +78,44 @@ pub fn print_trees(rt: &HostRuntime, text: &str) -> Result<ExitCode, io::Error>
             println!(rt; "out of memory")?;
             Ok(ExitCode::from(3))
         }
+    }
+}
+
+/// Prints a file's fault.
+pub fn print_file_error(rt: &HostRuntime, error: FileError) -> Result<ExitCode, io::Error> {
+    match error {
+        FileError::Lex(kind, at) => {
+            println!(rt; "fault {kind} {}:{}", at.line, at.col)?;
+            Ok(ExitCode::from(1))
+        }
+        FileError::Syntax(at) => print_fault(rt, "Syntax", at),
+        FileError::TooDeep(at) => print_fault(rt, "TooDeep", at),
+        FileError::Unsupported(form, at) => {
+            println!(rt; "fault Unsupported({form}) {}:{}", at.line, at.col)?;
+            Ok(ExitCode::from(1))
+        }
+        FileError::Twice(name, at) => {
+            println!(rt; "fault Twice({name}) {}:{}", at.line, at.col)?;
+            Ok(ExitCode::from(1))
+        }
+        FileError::Memory => {
+            println!(rt; "out of memory")?;
+            Ok(ExitCode::from(3))
+        }
+    }
+}
+
+/// Prints the tree of a file, or its fault.
+pub fn print_trees(rt: &HostRuntime, text: &str) -> Result<ExitCode, io::Error>
+    requires { length text.now < 2 ^ 31 }
+{
+    match parse(rt.alloc(), text) {
+        Ok(parsed) => {
+            let mut out = BufWriter::new(rt.alloc(), io::writer(rt))?;
+            write_module(&mut out, parsed.module())?;
+            out.flush()?;
+            Ok(ExitCode::from(0))
+        }
+        Err(error) => print_file_error(rt, error),
     }
 }

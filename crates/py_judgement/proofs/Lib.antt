@@ -1,0 +1,3 @@
+mod Fronts
+pub mod OneAnswer
+pub mod OneReading

@@ -1,0 +1,5 @@
+pub mod Firsts
+pub mod Inside
+pub mod Never
+pub mod Plain
+pub mod Verdicts

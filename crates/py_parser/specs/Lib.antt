@@ -1,0 +1,5 @@
+pub mod Lines
+pub mod Literals
+pub mod Suites
+pub mod Faults
+pub mod Refusals

@@ -1,0 +1,182 @@
+//! Functions and classes (Language Reference, 8.7 and 8.8): a function for each production.
+
+ghost use Rattle.std.specs.Prelude.{◌≡◌, ◌<◌, ◌≤◌, ◌∷◌, [], ℕ, true, false, List, IfOk, length};
+ghost use Rattle.phrases.specs.Reading.{Read};
+ghost use Rattle.phrases.specs.Loops.{Gives};
+ghost use Rattle.py_ast.specs.Grammar.{mapped, expr};
+ghost use Rattle.py_ast.specs.Literals.{literal};
+ghost use Rattle.py_ast.specs.Statements.{function, class_stmt};
+ghost use Rattle.py_ast.specs.Files.{suites, single, decorated_function, definition, decorated};
+ghost use Rattle.py_ast.specs.declared.statement.Suite.TheVariants.{Body, Members};
+ghost use Rattle.py_parser.specs.Suites.{ReadsSuites};
+
+use crate::blocks::{block_of, single};
+use crate::decorators::decorators_of;
+use crate::imports::name_of;
+use crate::names::{base_of, signature_of};
+use crate::simple::word_stmt;
+use crate::words::{AT, CLASS, DEF};
+use py_ast::{Class, Decorator, Function, Stmt, StmtForm, Suite};
+use py_expr::token::{Taken, mark, stands};
+use py_lexer::Token;
+use sqlite_items::Items;
+use std::alloc::Global;
+
+/// A function with these decorators.
+#[tactic(auto, unfolding(py_ast::specs::Statements::function))]
+fn function_of<'a, S>(
+    alloc: Global,
+    tokens: &'a [Token],
+    room: u8,
+    decorators: Items<Decorator>,
+    suite: &S,
+) -> Taken<'a, Stmt>
+where
+    S: Fn(Suite, &[Token]) -> Taken<'_, Items<Stmt>>,
+    requires callable { S.IsAlwaysCallable suite.now }
+    requires reads { ReadsSuites (λ s ts r. S.post suite.now s ts r) room }
+    ensures read { Gives (λ x. Read x.0 x.1.now) result ((function (expr 100) room (suites 100 room (Body (true) (false))) decorators).read tokens.now) }
+    ensures shorter { IfOk result (λ x. length x.1.now < length tokens.now) }
+{
+    let (at, rest) = mark(tokens, DEF)?;
+    let (name, rest) = name_of(rest)?;
+    let ((parameters, returns), rest) = signature_of(alloc, rest)?;
+    let (body, rest) = block_of(rest, room, Suite::Body(true, false), suite)?;
+    let function = Function {
+        decorators,
+        name,
+        parameters,
+        returns,
+        body,
+    };
+    Ok((word_stmt(at, StmtForm::Function(function)), rest))
+}
+
+/// A class with these decorators.
+#[tactic(auto, unfolding(py_ast::specs::Statements::class_stmt))]
+fn class_of<'a, S>(
+    alloc: Global,
+    tokens: &'a [Token],
+    room: u8,
+    decorators: Items<Decorator>,
+    suite: &S,
+) -> Taken<'a, Stmt>
+where
+    S: Fn(Suite, &[Token]) -> Taken<'_, Items<Stmt>>,
+    requires callable { S.IsAlwaysCallable suite.now }
+    requires reads { ReadsSuites (λ s ts r. S.post suite.now s ts r) room }
+    ensures read { Gives (λ x. Read x.0 x.1.now) result ((class_stmt room (suites 100 room Members) decorators).read tokens.now) }
+    ensures shorter { IfOk result (λ x. length x.1.now < length tokens.now) }
+{
+    let (at, rest) = mark(tokens, CLASS)?;
+    let (name, rest) = name_of(rest)?;
+    let (base, rest) = base_of(alloc, rest)?;
+    let (body, rest) = block_of(rest, room, Suite::Members, suite)?;
+    let class = Class {
+        decorators,
+        name,
+        base,
+        body,
+    };
+    Ok((word_stmt(at, StmtForm::Class(class)), rest))
+}
+
+/// A function, with decorators or without.
+#[tactic(auto, unfolding(py_ast::specs::Files::decorated_function))]
+fn decorated_function_of<'a, S>(
+    alloc: Global,
+    tokens: &'a [Token],
+    room: u8,
+    suite: &S,
+) -> Taken<'a, Stmt>
+where
+    S: Fn(Suite, &[Token]) -> Taken<'_, Items<Stmt>>,
+    requires callable { S.IsAlwaysCallable suite.now }
+    requires reads { ReadsSuites (λ s ts r. S.post suite.now s ts r) room }
+    ensures read { Gives (λ x. Read x.0 x.1.now) result ((decorated_function (expr 100) (literal 100) room (suites 100 room)).read tokens.now) }
+    ensures shorter { IfOk result (λ x. length x.1.now < length tokens.now) }
+{
+    if !stands(tokens, AT) {
+        return function_of(alloc, tokens, room, Items::new(alloc), suite);
+    }
+    let (decorators, rest) = decorators_of(alloc, tokens)?;
+    function_of(alloc, rest, room, decorators, suite)
+}
+
+/// A function of a class, as the statements of a line.
+#[tactic(auto, unfolding(py_ast::specs::Grammar::mapped))]
+pub fn single_function_of<'a, S>(
+    alloc: Global,
+    tokens: &'a [Token],
+    room: u8,
+    suite: &S,
+) -> Taken<'a, Items<Stmt>>
+where
+    S: Fn(Suite, &[Token]) -> Taken<'_, Items<Stmt>>,
+    requires callable { S.IsAlwaysCallable suite.now }
+    requires reads { ReadsSuites (λ s ts r. S.post suite.now s ts r) room }
+    ensures read { Gives (λ x. Read x.0 x.1.now) result ((mapped (decorated_function (expr 100) (literal 100) room (suites 100 room)) single).read tokens.now) }
+    ensures shorter { IfOk result (λ x. length x.1.now < length tokens.now) }
+{
+    let (statement, rest) = decorated_function_of(alloc, tokens, room, suite)?;
+    Ok((single(alloc, statement)?, rest))
+}
+
+/// A function or a class with these decorators.
+#[tactic(auto, unfolding(py_ast::specs::Files::definition))]
+fn definition_of<'a, S>(
+    alloc: Global,
+    tokens: &'a [Token],
+    room: u8,
+    decorators: Items<Decorator>,
+    suite: &S,
+) -> Taken<'a, Stmt>
+where
+    S: Fn(Suite, &[Token]) -> Taken<'_, Items<Stmt>>,
+    requires callable { S.IsAlwaysCallable suite.now }
+    requires reads { ReadsSuites (λ s ts r. S.post suite.now s ts r) room }
+    ensures read { Gives (λ x. Read x.0 x.1.now) result ((definition (expr 100) room (suites 100 room) decorators).read tokens.now) }
+    ensures shorter { IfOk result (λ x. length x.1.now < length tokens.now) }
+{
+    if stands(tokens, DEF) {
+        function_of(alloc, tokens, room, decorators, suite)
+    } else {
+        class_of(alloc, tokens, room, decorators, suite)
+    }
+}
+
+/// A function or a class, with decorators or without.
+#[tactic(auto, unfolding(py_ast::specs::Files::decorated))]
+fn decorated_of<'a, S>(alloc: Global, tokens: &'a [Token], room: u8, suite: &S) -> Taken<'a, Stmt>
+where
+    S: Fn(Suite, &[Token]) -> Taken<'_, Items<Stmt>>,
+    requires callable { S.IsAlwaysCallable suite.now }
+    requires reads { ReadsSuites (λ s ts r. S.post suite.now s ts r) room }
+    ensures read { Gives (λ x. Read x.0 x.1.now) result ((decorated (expr 100) (literal 100) room (suites 100 room)).read tokens.now) }
+    ensures shorter { IfOk result (λ x. length x.1.now < length tokens.now) }
+{
+    if !stands(tokens, AT) {
+        return definition_of(alloc, tokens, room, Items::new(alloc), suite);
+    }
+    let (decorators, rest) = decorators_of(alloc, tokens)?;
+    definition_of(alloc, rest, room, decorators, suite)
+}
+
+/// A function or a class, as the statements of a line.
+#[tactic(auto, unfolding(py_ast::specs::Grammar::mapped))]
+pub fn single_definition_of<'a, S>(
+    alloc: Global,
+    tokens: &'a [Token],
+    room: u8,
+    suite: &S,
+) -> Taken<'a, Items<Stmt>>
+where
+    S: Fn(Suite, &[Token]) -> Taken<'_, Items<Stmt>>,
+    requires callable { S.IsAlwaysCallable suite.now }
+    requires reads { ReadsSuites (λ s ts r. S.post suite.now s ts r) room }
+    ensures read { Gives (λ x. Read x.0 x.1.now) result ((mapped (decorated (expr 100) (literal 100) room (suites 100 room)) single).read tokens.now) }
+    ensures shorter { IfOk result (λ x. length x.1.now < length tokens.now) }
+{
+    let (statement, rest) = decorated_of(alloc, tokens, room, suite)?;
+    Ok((single(alloc, statement)?, rest))
+}

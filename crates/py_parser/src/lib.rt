@@ -1,0 +1,33 @@
+//! Python files, read from their tokens (Language Reference, chapters 7 to 9).
+//!
+//! Each function of a module reads one production, as `py_ast` defines it (`specs/Statements.antt`, `specs/Files.antt`).
+//!
+//! * `words`: which tokens begin what;
+//! * `imports`, `names`, `simple`: simple statements and their parts, parameters, bases, names of loops;
+//! * `literals`, `decorators`: decorators and their literal arguments;
+//! * `lines`: simple statements up to the end of a line;
+//! * `blocks`, `definitions`: statements with blocks;
+//! * `suites`: what stands behind the `:` of a block;
+//! * `lists`: lists of lists;
+//! * `files`: whole files;
+//! * `reading`: the module of a file, or its fault;
+//! * `parsing`: `parse`, a text with its module, or the text's fault.
+#![tactic(auto)]
+
+mod blocks;
+mod decorators;
+mod definitions;
+mod files;
+mod imports;
+mod lines;
+mod lists;
+mod literals;
+mod names;
+mod parsing;
+mod reading;
+mod simple;
+mod suites;
+mod words;
+
+pub use parsing::{FileError, parse};
+pub use reading::{GrammarError, module_of_tokens};

@@ -1,0 +1,201 @@
+//! Lines of simple statements (Language Reference, chapter 7): a function for each production.
+
+ghost use Rattle.std.specs.Prelude.{◌≡◌, ◌<◌, ◌≤◌, ◌∷◌, [], ℕ, List, Option, Some, None, IfOk, length};
+ghost use Rattle.phrases.specs.Sets.{has, starts};
+ghost use Rattle.phrases.specs.Reading.{Read};
+ghost use Rattle.phrases.specs.Phrases.{token, sequence, either};
+ghost use Rattle.phrases.specs.Series.{series};
+ghost use Rattle.phrases.specs.Loops.{Gives};
+ghost use Rattle.py_ast.specs.Kinds.{class, mark_of};
+ghost use Rattle.py_ast.specs.Grammar.{mapped, goes_past, expr};
+ghost use Rattle.py_ast.specs.Statements.{optional, assigned, annotated, further, line};
+ghost use Rattle.py_ast.specs.Files.{member_of, name_expr, ellipsis_of, member_simple, file_simple};
+ghost use Rattle.py_parser.specs.Lines.{simples, simples_first, simples_line};
+
+use crate::imports::{from_of, import_of};
+use crate::literals::texts_of;
+use crate::names::plain_name_of;
+use crate::simple::{annotated_of, assigned_of, begun_with, simple_of, word_token};
+use crate::words::{
+    ELLIPSIS, EQUAL, FROM, IMPORT, NAME, NEWLINE, SEMICOLON, begins_file_simple, begins_member,
+    begins_simple, stands_word,
+};
+use phrases::series;
+use py_ast::{Constant, Expr, Form, NameAt, Stmt, Tail, given_after};
+use py_expr::class::class_of;
+use py_expr::token::{Taken, make_leaf, mark, stands};
+use py_lexer::Token;
+use py_literals::place::Pos;
+use sqlite_items::Items;
+use std::alloc::Global;
+
+/// The simple statements that may stand on a line.
+#[derive(Clone, Copy, Debug, PartialEq, Eq)]
+pub enum Simples {
+    /// Of a block: whether it stands in a function, and whether in a loop of it.
+    OfBody(bool, bool),
+    /// Of a class.
+    OfClass,
+    /// Of a file.
+    OfFile,
+}
+
+/// What follows the name that a statement of a class begins with.
+fn member_tail_of(alloc: Global, tokens: &[Token]) -> Taken<'_, Tail>
+    ensures read { Gives (λ x. Read x.0 x.1.now) result ((either class (81 ∷ []) (assigned (expr 100)) (annotated (expr 100))).read tokens.now) }
+    ensures shorter { IfOk result (λ x. length x.1.now < length tokens.now) }
+{
+    if stands(tokens, EQUAL) {
+        assigned_of(alloc, tokens)
+    } else {
+        annotated_of(alloc, tokens)
+    }
+}
+
+fn name_expr(name: NameAt) -> Expr
+    ensures { result ≡ name_expr name }
+{
+    make_leaf(name.at, Form::Name(name.name))
+}
+
+/// A statement of a class that begins with a name.
+fn member_of(name: NameAt, tail: Tail) -> Stmt
+    ensures { result ≡ member_of name tail }
+{
+    begun_with(name_expr(name), tail)
+}
+
+fn ellipsis_of(at: Pos) -> Stmt
+    ensures { result ≡ ellipsis_of at }
+{
+    begun_with(
+        make_leaf(at, Form::Constant(Constant::Ellipsis)),
+        Tail::Alone,
+    )
+}
+
+/// A simple statement of a class.
+#[tactic(auto, unfolding(py_ast::specs::Files::member_simple, py_ast::specs::Grammar::mapped))]
+fn member_simple_of(alloc: Global, tokens: &[Token]) -> Taken<'_, Stmt>
+    ensures read { Gives (λ x. Read x.0 x.1.now) result ((member_simple (expr 100)).read tokens.now) }
+    ensures shorter { IfOk result (λ x. length x.1.now < length tokens.now) }
+{
+    if stands(tokens, NAME) {
+        let (name, rest) = plain_name_of(tokens)?;
+        let (tail, rest) = member_tail_of(alloc, rest)?;
+        return Ok((member_of(name, tail), rest));
+    }
+    if stands_word(tokens, false) {
+        return word_token(tokens, false);
+    }
+    if stands(tokens, ELLIPSIS) {
+        let (at, rest) = mark(tokens, ELLIPSIS)?;
+        return Ok((ellipsis_of(at), rest));
+    }
+    let (text, rest) = texts_of(alloc, tokens)?;
+    Ok((begun_with(text, Tail::Alone), rest))
+}
+
+/// A simple statement of a file.
+#[tactic(auto, unfolding(py_ast::specs::Files::file_simple))]
+fn file_simple_of(alloc: Global, tokens: &[Token]) -> Taken<'_, Stmt>
+    ensures read { Gives (λ x. Read x.0 x.1.now) result ((file_simple (expr 100)).read tokens.now) }
+    ensures shorter { IfOk result (λ x. length x.1.now < length tokens.now) }
+{
+    if stands(tokens, IMPORT) {
+        import_of(alloc, tokens)
+    } else if stands(tokens, FROM) {
+        from_of(alloc, tokens)
+    } else {
+        simple_of(alloc, tokens, false, false)
+    }
+}
+
+/// A simple statement.
+#[tactic(auto, unfolding(crate::specs::Lines::simples))]
+fn one_of(alloc: Global, tokens: &[Token], place: Simples) -> Taken<'_, Stmt>
+    ensures read { Gives (λ x. Read x.0 x.1.now) result ((simples (expr 100) place).read tokens.now) }
+    ensures shorter { IfOk result (λ x. length x.1.now < length tokens.now) }
+{
+    match place {
+        Simples::OfBody(returns, loops) => simple_of(alloc, tokens, returns, loops),
+        Simples::OfClass => member_simple_of(alloc, tokens),
+        Simples::OfFile => file_simple_of(alloc, tokens),
+    }
+}
+
+/// Whether the class begins a simple statement.
+fn begins(place: Simples, class: u8) -> bool
+    ensures { result ≡ has (simples_first place) class }
+{
+    match place {
+        Simples::OfBody(returns, loops) => begins_simple(returns, loops, class),
+        Simples::OfClass => begins_member(class),
+        Simples::OfFile => begins_file_simple(class),
+    }
+}
+
+/// Whether a simple statement begins at the front.
+pub fn stands_one_of(tokens: &[Token], place: Simples) -> bool
+    ensures { result ≡ starts class (simples_first place) tokens.now }
+{
+    match tokens {
+        [first, ..] => begins(place, class_of(first)),
+        [] => false,
+    }
+}
+
+/// `;`, and a statement behind it if one begins there.
+#[tactic(auto, unfolding(py_ast::specs::Statements::further, py_ast::specs::Statements::optional, py_ast::specs::Grammar::mapped))]
+fn further_of(
+    alloc: Global,
+    tokens: &[Token],
+    place: Simples,
+) -> Taken<'_, ((Pos, Option<Stmt>), Option<()>)>
+    ensures read { Gives (λ x. Read x.0.0 x.1.now) result ((further (simples_first place) (simples (expr 100) place)).read tokens.now) }
+    ensures next { IfOk result (λ x. x.0.1 ≡ goes_past (λ s. tt {0}) x.0.0) }
+    ensures shorter { IfOk result (λ x. length x.1.now < length tokens.now) }
+{
+    let (at, rest) = mark(tokens, SEMICOLON)?;
+    if !stands_one_of(rest, place) {
+        return Ok((((at, None), None), rest));
+    }
+    let (statement, rest) = one_of(alloc, rest, place)?;
+    Ok((((at, Some(statement)), Some(())), rest))
+}
+
+/// `;` with statements behind them, but behind the last none need stand.
+fn all_further_of(
+    alloc: Global,
+    tokens: &[Token],
+    place: Simples,
+) -> Taken<'_, Items<(Pos, Option<Stmt>)>>
+    ensures read { Gives (λ x. Read x.0 x.1.now) result ((series class (λ t. 80 ∷ []) (λ t. further (simples_first place) (simples (expr 100) place)) (λ t i. goes_past (λ s. tt {0}) i) (tt {0})).read tokens.now) }
+    ensures no_longer { IfOk result (λ x. length x.1.now ≤ length tokens.now) }
+{
+    series(
+        alloc,
+        tokens,
+        (),
+        |_state: (), token: &Token|
+            ensures { result ≡ has (80 ∷ []) (class token.now) }
+        { class_of(token) == SEMICOLON },
+        |_state: (), rest: &[Token]|
+            ensures read { Gives (λ x. Read x.0.0 x.1.now) result ((further (simples_first place) (simples (expr 100) place)).read rest.now) }
+            ensures next { IfOk result (λ x. x.0.1 ≡ goes_past (λ s. tt {0}) x.0.0) }
+            ensures shorter { IfOk result (λ x. length x.1.now < length rest.now) }
+        { further_of(alloc, rest, place) },
+    )
+}
+
+/// A line of simple statements, up to its end. Linear in its tokens.
+#[tactic(auto, unfolding(py_ast::specs::Statements::line, py_ast::specs::Grammar::mapped, py_ast::specs::Grammar::ended))]
+pub fn line_of(alloc: Global, tokens: &[Token], place: Simples) -> Taken<'_, Items<Stmt>>
+    ensures read { Gives (λ x. Read x.0 x.1.now) result ((simples_line (expr 100) place).read tokens.now) }
+    ensures shorter { IfOk result (λ x. length x.1.now < length tokens.now) }
+{
+    let (first, rest) = one_of(alloc, tokens, place)?;
+    let (others, rest) = all_further_of(alloc, rest, place)?;
+    let (_, rest) = mark(rest, NEWLINE)?;
+    Ok((given_after(alloc, first, others)?, rest))
+}

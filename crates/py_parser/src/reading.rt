@@ -1,0 +1,94 @@
+//! The module of a file's tokens, or the fault of the grammar.
+
+ghost use Rattle.std.specs.Prelude.{◌≡◌, List, [], ◌∷◌};
+ghost use Rattle.py_parser.specs.Faults.{SyntaxStop, EndsWith, StopPlace, ReadsTo, Refused, Judged};
+
+use crate::files::lines_of;
+use crate::lists::flattened;
+use phrases::{Fault, Stop};
+use py_ast::Module;
+use py_forms::told_in_file;
+use py_lexer::{Form, Token};
+use py_literals::place::Pos;
+use sqlite_items::Items;
+use std::alloc::Global;
+
+/// Why tokens are no module, and where.
+#[derive(Clone, Copy, Debug, PartialEq, Eq)]
+pub enum GrammarError {
+    /// The token with which no module goes on, or the last one where the tokens end too early.
+    Syntax(Pos),
+    /// A form of Python that isn't supported, at its first token.
+    Unsupported(Form, Pos),
+    /// The token that opens nesting 101 of an expression, or block 101.
+    TooDeep(Pos),
+    /// There is no memory left for the tree.
+    Memory,
+}
+
+/// The module, or where reading stops.
+#[tactic(auto, using(crate::proofs::Verdicts::is_module, crate::proofs::Verdicts::stops_behind, crate::proofs::Verdicts::stops_inside, crate::proofs::Verdicts::too_deep))]
+fn read_module(alloc: Global, tokens: &[Token]) -> Result<Module, Stop<'_, Token>>
+    ensures { ReadsTo tokens.now result }
+{
+    let (lines, rest) = match lines_of(alloc, tokens) {
+        Ok(read) => read,
+        Err(stop) => return Err(stop),
+    };
+    match rest {
+        [] => Ok(Module {
+            body: flattened(alloc, lines)?,
+        }),
+        [_, ..] => Err(Stop::Fault(Fault::Syntax, rest)),
+    }
+}
+
+/// The place of the first token of `rest`, or `end` where none is left.
+fn stop_place(rest: &[Token], end: Pos) -> Pos
+    ensures { (tokens : List _) → EndsWith tokens end → StopPlace tokens rest.now result }
+{
+    match rest {
+        [first, ..] => first.at,
+        [] => end,
+    }
+}
+
+/// The fault where reading stops before `rest`: the form that is told there, if one is.
+fn refused(tokens: &[Token], rest: &[Token], end: Pos) -> GrammarError
+    requires stops { SyntaxStop tokens.now rest.now }
+    requires ends { EndsWith tokens.now end }
+    ensures { Refused tokens.now result }
+{
+    let count = tokens.len() - rest.len();
+    match told_in_file(&tokens[..count], rest) {
+        None => GrammarError::Syntax(stop_place(rest, end)),
+        Some(found) => GrammarError::Unsupported(found.form, tokens[found.place].at),
+    }
+}
+
+/// The module that the tokens spell, with 100 nestings at most in an expression and 100 blocks, one in another.
+///
+/// Linear in the tokens. Errors: `TooDeep` at the token that opens one nesting or block too many; where reading stops, which
+/// is before the last token of the shortest part from the front with which no module begins, or at the end where each part
+/// begins one and the whole is none, `Unsupported` at the first token of the form that is told there, or else `Syntax` at that
+/// last token (Language Reference, chapter 10, cut to the subset).
+pub fn module_of_tokens(alloc: Global, tokens: &[Token]) -> Result<Module, GrammarError>
+    ensures { Judged tokens.now result }
+{
+    let end = match tokens.split_last() {
+        None => {
+            return Ok(Module {
+                body: Items::new(alloc),
+            });
+        }
+        Some((last, _)) => last.at,
+    };
+    match read_module(alloc, tokens) {
+        Ok(module) => Ok(module),
+        Err(Stop::Memory) => Err(GrammarError::Memory),
+        Err(Stop::Fault(Fault::Syntax, rest)) => Err(refused(tokens, rest, end)),
+        Err(Stop::Fault(Fault::TooDeep, rest)) => {
+            Err(GrammarError::TooDeep(stop_place(rest, end)))
+        }
+    }
+}

@@ -1,0 +1,227 @@
+//! The statements behind the `:` of a block (Language Reference, chapter 8).
+
+ghost use Rattle.std.specs.Prelude.{◌≡◌, ◌<◌, ◌≤◌, ◌∷◌, [], ℕ, List, IfOk, length};
+ghost use Rattle.phrases.specs.Sets.{has};
+ghost use Rattle.phrases.specs.Reading.{Read};
+ghost use Rattle.phrases.specs.Phrases.{many};
+ghost use Rattle.phrases.specs.Loops.{Gives};
+ghost use Rattle.py_ast.specs.Kinds.{class};
+ghost use Rattle.py_ast.specs.Grammar.{expr};
+ghost use Rattle.py_ast.specs.Literals.{literal};
+ghost use Rattle.py_ast.specs.Files.{suites, suite_first, indented, body_statement, member_statement};
+ghost use Rattle.py_parser.specs.Lines.{simples_line};
+ghost use Rattle.py_parser.specs.Suites.{ReadsSuites, statement, statement_first, simples_of};
+
+use crate::blocks::single_compound_of;
+use crate::definitions::single_function_of;
+use crate::imports::prepended;
+use crate::lines::{Simples, line_of};
+use crate::lists::flattened;
+use crate::words::{
+    DEDENT, INDENT, NEWLINE, begins_compound, begins_function, begins_member, begins_simple,
+    stands_compound, stands_function,
+};
+use phrases::{Fault, Stop, many};
+use py_ast::{Stmt, Suite};
+use py_expr::class::class_of;
+use py_expr::token::{Taken, mark, stands};
+use py_lexer::Token;
+use sqlite_items::Items;
+use std::alloc::Global;
+
+/// A statement of a block, or a line of simple ones.
+#[tactic(auto, unfolding(py_ast::specs::Files::body_statement, crate::specs::Lines::simples))]
+fn body_statement_of<'a, S>(
+    alloc: Global,
+    tokens: &'a [Token],
+    room: u8,
+    returns: bool,
+    loops: bool,
+    suite: &S,
+) -> Taken<'a, Items<Stmt>>
+where
+    S: Fn(Suite, &[Token]) -> Taken<'_, Items<Stmt>>,
+    requires callable { S.IsAlwaysCallable suite.now }
+    requires reads { ReadsSuites (λ s ts r. S.post suite.now s ts r) room }
+    ensures read { Gives (λ x. Read x.0 x.1.now) result ((body_statement (expr 100) room (suites 100 room) returns loops).read tokens.now) }
+    ensures shorter { IfOk result (λ x. length x.1.now < length tokens.now) }
+{
+    if stands_compound(tokens) {
+        single_compound_of(alloc, tokens, room, returns, loops, suite)
+    } else {
+        line_of(alloc, tokens, Simples::OfBody(returns, loops))
+    }
+}
+
+/// A function of a class, or a line of simple statements.
+#[tactic(auto, unfolding(py_ast::specs::Files::member_statement, crate::specs::Lines::simples))]
+fn member_statement_of<'a, S>(
+    alloc: Global,
+    tokens: &'a [Token],
+    room: u8,
+    suite: &S,
+) -> Taken<'a, Items<Stmt>>
+where
+    S: Fn(Suite, &[Token]) -> Taken<'_, Items<Stmt>>,
+    requires callable { S.IsAlwaysCallable suite.now }
+    requires reads { ReadsSuites (λ s ts r. S.post suite.now s ts r) room }
+    ensures read { Gives (λ x. Read x.0 x.1.now) result ((member_statement (expr 100) (literal 100) room (suites 100 room)).read tokens.now) }
+    ensures shorter { IfOk result (λ x. length x.1.now < length tokens.now) }
+{
+    if stands_function(tokens) {
+        single_function_of(alloc, tokens, room, suite)
+    } else {
+        line_of(alloc, tokens, Simples::OfClass)
+    }
+}
+
+/// A statement, or a line of simple ones.
+#[tactic(auto, unfolding(crate::specs::Suites::statement))]
+fn statement_of<'a, S>(
+    alloc: Global,
+    tokens: &'a [Token],
+    room: u8,
+    kind: Suite,
+    suite: &S,
+) -> Taken<'a, Items<Stmt>>
+where
+    S: Fn(Suite, &[Token]) -> Taken<'_, Items<Stmt>>,
+    requires callable { S.IsAlwaysCallable suite.now }
+    requires reads { ReadsSuites (λ s ts r. S.post suite.now s ts r) room }
+    ensures read { Gives (λ x. Read x.0 x.1.now) result ((statement room (suites 100 room) kind).read tokens.now) }
+    ensures shorter { IfOk result (λ x. length x.1.now < length tokens.now) }
+{
+    match kind {
+        Suite::Body(returns, loops) => {
+            body_statement_of(alloc, tokens, room, returns, loops, suite)
+        }
+        Suite::Members => member_statement_of(alloc, tokens, room, suite),
+    }
+}
+
+/// Whether the class begins a statement.
+fn begins_statement(kind: Suite, class: u8) -> bool
+    ensures { result ≡ has (statement_first kind) class }
+{
+    match kind {
+        Suite::Body(returns, loops) => {
+            begins_compound(class) || begins_simple(returns, loops, class)
+        }
+        Suite::Members => begins_function(class) || begins_member(class),
+    }
+}
+
+/// The simple statements of a block.
+fn simples_of(kind: Suite) -> Simples
+    ensures { result ≡ simples_of kind }
+{
+    match kind {
+        Suite::Body(returns, loops) => Simples::OfBody(returns, loops),
+        Suite::Members => Simples::OfClass,
+    }
+}
+
+/// Statements, line by line, while one begins.
+fn statements_of<'a, S>(
+    alloc: Global,
+    tokens: &'a [Token],
+    room: u8,
+    kind: Suite,
+    suite: &S,
+) -> Taken<'a, Items<Items<Stmt>>>
+where
+    S: Fn(Suite, &[Token]) -> Taken<'_, Items<Stmt>>,
+    requires callable { S.IsAlwaysCallable suite.now }
+    requires reads { ReadsSuites (λ s ts r. S.post suite.now s ts r) room }
+    ensures read { Gives (λ x. Read x.0 x.1.now) result ((many class (statement_first kind) (statement room (suites 100 room) kind)).read tokens.now) }
+    ensures no_longer { IfOk result (λ x. length x.1.now ≤ length tokens.now) }
+{
+    many(
+        alloc,
+        tokens,
+        |token: &Token|
+            ensures { result ≡ has (statement_first kind) (class token.now) }
+        { begins_statement(kind, class_of(token)) },
+        |rest: &[Token]|
+            requires callable { S.IsAlwaysCallable suite.now }
+            requires reads { ReadsSuites (λ s ts r. S.post suite.now s ts r) room }
+            ensures read { Gives (λ x. Read x.0 x.1.now) result ((statement room (suites 100 room) kind).read rest.now) }
+            ensures shorter { IfOk result (λ x. length x.1.now < length rest.now) }
+        { statement_of(alloc, rest, room, kind, suite) },
+    )
+}
+
+/// What stands behind the `:` of a block: statements, indented on lines of their own, or simple ones on the same line.
+#[tactic(auto, unfolding(py_ast::specs::Files::indented, py_ast::specs::Grammar::mapped, py_ast::specs::Grammar::past, py_ast::specs::Grammar::ended))]
+fn suite_over_of<'a, S>(
+    alloc: Global,
+    tokens: &'a [Token],
+    room: u8,
+    kind: Suite,
+    suite: S,
+) -> Taken<'a, Items<Stmt>>
+where
+    S: Fn(Suite, &[Token]) -> Taken<'_, Items<Stmt>>,
+    requires callable { S.IsAlwaysCallable suite }
+    requires reads { ReadsSuites (λ s ts r. S.post suite s ts r) room }
+    ensures read { Gives (λ x. Read x.0 x.1.now) result ((indented (statement_first kind) (statement room (suites 100 room) kind) (simples_line (expr 100) (simples_of kind))).read tokens.now) }
+    ensures shorter { IfOk result (λ x. length x.1.now < length tokens.now) }
+{
+    if !stands(tokens, NEWLINE) {
+        return line_of(alloc, tokens, simples_of(kind));
+    }
+    let (_, rest) = mark(tokens, NEWLINE)?;
+    let (_, rest) = mark(rest, INDENT)?;
+    let (first, rest) = statement_of(alloc, rest, room, kind, &suite)?;
+    let (others, rest) = statements_of(alloc, rest, room, kind, &suite)?;
+    let (_, rest) = mark(rest, DEDENT)?;
+    let all = prepended(alloc, first, others)?;
+    Ok((flattened(alloc, all)?, rest))
+}
+
+/// Whether the class begins what stands behind a `:`.
+fn begins_suite(kind: Suite, class: u8) -> bool
+    ensures { result ≡ has (suite_first kind) class }
+{
+    match kind {
+        Suite::Body(returns, loops) => class == NEWLINE || begins_simple(returns, loops, class),
+        Suite::Members => class == NEWLINE || begins_member(class),
+    }
+}
+
+/// What stands behind a `:` that opens one block too many: the fault.
+#[tactic(auto, unfolding(py_ast::specs::Nested::nest_shapes))]
+fn no_suite(tokens: &[Token], kind: Suite) -> Taken<'_, Items<Stmt>>
+    ensures read { Gives (λ x. Read x.0 x.1.now) result ((suites 100 0 kind).read tokens.now) }
+    ensures shorter { IfOk result (λ x. length x.1.now < length tokens.now) }
+{
+    match tokens {
+        [first, ..] if begins_suite(kind, class_of(first)) => {
+            Err(Stop::Fault(Fault::TooDeep, tokens))
+        }
+        _ => Err(Stop::Fault(Fault::Syntax, tokens)),
+    }
+}
+
+/// What stands behind the `:` of a block, where so many could be opened before it. Linear in the tokens.
+#[cycle(suite)]
+#[tactic(auto, using(crate::proofs::Inside::suites_is))]
+pub fn suite_of(alloc: Global, tokens: &[Token], room: u8, kind: Suite) -> Taken<'_, Items<Stmt>>
+    ensures read { Gives (λ x. Read x.0 x.1.now) result ((suites 100 room kind).read tokens.now) }
+    ensures shorter { IfOk result (λ x. length x.1.now < length tokens.now) }
+{
+    if room == 0 {
+        return no_suite(tokens, kind);
+    }
+    let inner = room - 1;
+    suite_over_of(
+        alloc,
+        tokens,
+        inner,
+        kind,
+        |kind: Suite, rest: &[Token]|
+            ensures read { Gives (λ x. Read x.0 x.1.now) result ((suites 100 inner kind).read rest.now) }
+            ensures shorter { IfOk result (λ x. length x.1.now < length rest.now) }
+        { suite_of(alloc, rest, inner, kind) },
+    )
+}

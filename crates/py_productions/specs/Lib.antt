@@ -1,0 +1,11 @@
+pub mod Rules
+pub mod Expressions
+pub mod Targets
+pub mod Assignments
+pub mod Lines
+pub mod Names
+pub mod Orders
+pub mod Parameters
+pub mod Members
+pub mod Simples
+pub mod Displays

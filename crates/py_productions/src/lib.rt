@@ -1,0 +1,9 @@
+//! The grammar of Python files as the subset's productions write it, and what is read by left-factored phrases: they spell the same.
+#![tactic(auto)]
+
+mod laws;
+
+pub use laws::{
+    argument_lists, assignments, bases, calls, decorators, displays, expressions, imports, lines,
+    loops, members, signatures, simple_statements,
+};
