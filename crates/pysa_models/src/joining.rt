@@ -1,6 +1,6 @@
 //! The models of each name, joined.
 
-ghost use Rattle.std.specs.Prelude.{◌≡◌, false, IfOk, OnOk, map, unwrap_or};
+ghost use Rattle.std.specs.Prelude.{◌≡◌, IfOk, OnOk, map};
 ghost use Rattle.indexmap.specs.IndexMap.{get};
 ghost use Rattle.rv_names.specs.Keys.{Parts, parts_equal};
 ghost use Rattle.pysa_models.specs.Models.{declaration};
@@ -43,21 +43,18 @@ fn add_model(
     }
 }
 
-/// Takes out what a name has, which is nothing where it is new.
-fn take(alloc: Global, names: &mut IndexMap<QName, Declaration>, name: &QName) -> Declaration
-    ensures value { result ≡ unwrap_or (get parts_equal names.old name.now) nothing }
-    ensures others { (q : Parts) → parts_equal name.now q ≡ false → get parts_equal names.new q ≡ get parts_equal names.old q }
+/// A declaration without models, with room for what this model adds, since most names have one.
+fn nothing(alloc: Global, model: &Placed<'_>) -> Result<Declaration, Memory>
+    ensures { IfOk result (λ d. d ≡ nothing) }
 {
-    match names.swap_remove(name) {
-        Some(declaration) => declaration,
-        None => Declaration {
-            signatures: Items::new(alloc),
-            uses: Items::new(alloc),
-        },
-    }
+    let signatures = model.decl.callable as usize;
+    Ok(Declaration {
+        signatures: Items::from_vec(Vec::with_capacity(alloc, signatures)?),
+        uses: Items::new(alloc),
+    })
 }
 
-/// Joins a model with the earlier ones of its name.
+/// Joins a model with the earlier ones of its name, which one lookup finds.
 fn join(
     alloc: Global,
     config: &Config,
@@ -68,9 +65,10 @@ fn join(
     ensures { OnOk result ((q : Parts) → get parts_equal names.new q ≡ joined_at config.now leaves.now (model_at model.now) q (get parts_equal names.old q)) }
 {
     let name = &model.decl.name;
-    let mut declaration = take(alloc, names, name);
-    add_model(alloc, config, leaves.number(name), model, &mut declaration)?;
-    names.insert(name.copy()?, declaration)?;
+    let leaf = leaves.number(name);
+    let nothing = nothing(alloc, model)?;
+    let declaration = names.entry(name.copy()?)?.or_insert(nothing);
+    add_model(alloc, config, leaf, model, declaration)?;
     Ok(())
 }
 

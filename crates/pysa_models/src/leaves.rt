@@ -7,6 +7,7 @@ ghost use Rattle.pysa_models.specs.Marks.{is_known};
 ghost use Rattle.pysa_models.specs.Models.{leaf_number, marks_in};
 ghost use Rattle.pysa_models.specs.Views.{model_at};
 
+use crate::arranging::arranged;
 use crate::marks::has_known;
 use crate::models::Placed;
 use indexmap::IndexSet;
@@ -85,11 +86,13 @@ fn known_names(
     Ok(names)
 }
 
-/// The leaves of models. Want of memory also stands for 2 ^ 32 of them. It costs a sort of their names.
+/// The leaves of models. Want of memory also stands for 2 ^ 32 of them. It costs a sort of their names, which are nearly in
+/// order before it.
 pub fn leaves_of(alloc: Global, config: &Config, models: &[Placed<'_>]) -> Result<Leaves, Memory>
     ensures { IfOk result (λ l. AreLeaves config.now (map model_at models.now) l) }
 {
-    let mut names = known_names(alloc, config, models)?;
+    let arranged = arranged(alloc, models)?;
+    let mut names = known_names(alloc, config, arranged.as_slice())?;
     names.sort()?;
     if names.len() > u32::MAX as usize {
         return Err(Memory);

@@ -5,6 +5,7 @@
 //! * `models`: the models of all files, one after the other;
 //! * `marks`: marks by number;
 //! * `signatures`: a model with `def` by number;
+//! * `arranging`: models in nearly the order of their names;
 //! * `leaves`: the names that declare a mark of a known kind, by number;
 //! * `joining`: the models of each name, joined;
 //! * `notes`: the kinds that are unknown;
@@ -14,6 +15,7 @@
 //! which notes there are.
 #![tactic(auto)]
 
+mod arranging;
 mod declaration;
 mod declared;
 mod joining;

@@ -50,7 +50,7 @@ fn parameters(
 ) -> Result<Items<Parameter>, Memory>
     ensures { IfOk result (λ ps. ps ≡ map (parameter_of config.now leaf) params.now) }
 {
-    let mut parameters = Items::new(alloc);
+    let mut parameters = Items::from_vec(Vec::with_capacity(alloc, params.len())?);
     for param in params {
         parameters.push(parameter(alloc, config, leaf, param)?)?;
     }
