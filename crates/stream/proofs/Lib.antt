@@ -1,4 +1,5 @@
 pub mod Fronts
+pub mod Nothing
 pub mod Waits
 pub mod Reached
 pub mod Held

@@ -12,7 +12,7 @@ abbrev pub input_limit : ℕ
 input_limit = 2 ^ 29
 
 pub record State : Type 0 where
-  -- the bytes of the command that the last step gave; none after an error
+  -- the bytes of the command that the last step gave; none after an error or a peek
   pub last : List ℕ
   -- the bytes that were read and not acted on
   pub pending : List ℕ
@@ -53,7 +53,7 @@ pub record IsMalformed (pending : List ℕ) (over : Bool) : Type 0 where
   pub none : BeginsNone 0 pending
   pub dead : over ≡ false → IsUnfinished 0 pending → ⊥
 
--- why no command was given, where the source's count of faults `rose` or did not
+-- why no command, or no byte, was given, where the source's count of faults `rose` or did not
 abbrev pub IsCause : Type 0 → ℕ → List ℕ → Bool → StreamFault → Type 0
 IsCause rose place pending over (Malformed at) = (at ≡ place) × IsMalformed pending over
 IsCause rose place pending over ReadFault = rose × IsWaiting pending over

@@ -3,7 +3,7 @@
 //! * `stream`: `Stream`, which reads them and holds the bytes of the last one;
 //! * `fault`: why no command is given;
 //! * `asking`: what the bytes at hand begin with;
-//! * `reading`: more bytes, until there is a command;
+//! * `reading`: more bytes, until there is a command, or a first byte;
 //! * `laws`: what two readings of one input have in common.
 #![tactic(auto)]
 

@@ -1,6 +1,7 @@
-//! More bytes, until there is a command.
+//! More bytes, until there is a command, or a first byte.
 
-ghost use Rattle.std.specs.Prelude.{◌≡◌, ◌+◌, ◌-◌, ◌^◌, ◌≤◌, true, false, length, take, drop, vec_len, IfOk, IfErr, IsErrOf};
+ghost use Rattle.std.specs.Prelude.{◌≡◌, ◌≢◌, ◌+◌, ◌-◌, ◌^◌, ◌≤◌, ℕ, true, false, [], length, take, drop, vec_len, Ok, IfOk, IfErr, OnOk, OnErr, IsErrOf};
+ghost use Rattle.std.specs.Io.KnownBytes.{IsAtEnd};
 ghost use Rattle.rv_io.specs.Counts.{Rises};
 ghost use Rattle.rv_io.specs.Moves.{Moves, LosesOne};
 ghost use Rattle.script.specs.Grammar.{Spells};
@@ -123,4 +124,73 @@ pub fn read_next<S: Source>(
             Heard::Fault => failed = true,
         }
     }
+}
+
+/// Reads one piece into a buffer that holds nothing and begins at the place `place` of the input, and answers whether the
+/// source told its end.
+#[tactic(auto, using(crate::proofs::Nothing::nothing_waits))]
+fn read_piece<S: Source>(
+    source: &mut S,
+    bytes: &mut Vec<u8>,
+    place: usize,
+) -> Result<bool, StreamFault>
+    requires empty { bytes.old.items ≡ [] }
+    requires limit { place ≤ 2 ^ 29 }
+    ensures limit { place + vec_len bytes.new ≤ 2 ^ 29 }
+    ensures small { vec_len bytes.new ≤ 65536 }
+    ensures moved { (IsErrOf result StreamFault.TooLong → ⊥) → Moves (S.left source.old) (S.left source.new) [] bytes.new.items }
+    ensures one_more { IsErrOf result StreamFault.TooLong → MovesOneMore (S.left source.old) (S.left source.new) [] bytes.new.items }
+    ensures more { result ≡ Ok false → bytes.new.items ≢ [] }
+    ensures end { result ≡ Ok true → (bytes.new.items ≡ []) × IsAtEnd (S.left source.old) }
+    ensures err { OnErr result (bytes.new.items ≡ []) }
+    ensures cause { IfErr result (IsCause (Rises (S.faults source.old) (S.faults source.new)) place [] false) }
+    ensures never_malformed { (at : ℕ) → IsErrOf result (StreamFault.Malformed at) → ⊥ }
+    ensures never_falls { S.faults source.old ≤ S.faults source.new }
+{
+    match read_more(source, bytes, LONGEST_INPUT - place) {
+        Ok(More::Bytes(_)) => Ok(false),
+        Ok(More::End) => Ok(true),
+        Err(ReadError::Fault) => Err(StreamFault::ReadFault),
+        Err(ReadError::TooLong) => Err(StreamFault::TooLong),
+        Err(ReadError::Memory) => Err(StreamFault::Memory),
+    }
+}
+
+/// Reads one piece where no byte is at hand from the place `start` on, unless the source told its end. The first of them
+/// is at the place `place` of the input.
+#[tactic(auto, using(crate::proofs::Nothing::nothing_none))]
+pub fn read_first<S: Source>(
+    source: &mut S,
+    bytes: &mut Vec<u8>,
+    start: &mut usize,
+    over: &mut bool,
+    place: usize,
+) -> Result<(), StreamFault>
+    requires start { start.old ≤ vec_len bytes.old }
+    requires limit { place + (vec_len bytes.old - start.old) ≤ 2 ^ 29 }
+    ensures start { start.new ≤ vec_len bytes.new }
+    ensures limit { place + (vec_len bytes.new - start.new) ≤ 2 ^ 29 }
+    ensures needed { IsNeeded (drop start.old bytes.old.items) (drop start.new bytes.new.items) }
+    ensures at_hand { drop start.old bytes.old.items ≢ []
+        → (source.new ≡ source.old) × (drop start.new bytes.new.items ≡ drop start.old bytes.old.items) × (over.new ≡ over.old) }
+    ensures moved { (IsErrOf result StreamFault.TooLong → ⊥)
+        → Moves (S.left source.old) (S.left source.new) (drop start.old bytes.old.items) (drop start.new bytes.new.items) }
+    ensures one_more { IsErrOf result StreamFault.TooLong
+        → MovesOneMore (S.left source.old) (S.left source.new) (drop start.old bytes.old.items) (drop start.new bytes.new.items) }
+    ensures none { OnOk result (drop start.new bytes.new.items ≡ [] → over.new ≡ true) }
+    ensures cause { IfErr result (IsCause (Rises (S.faults source.old) (S.faults source.new)) place (drop start.new bytes.new.items) over.new) }
+    ensures never_malformed { (at : ℕ) → IsErrOf result (StreamFault.Malformed at) → ⊥ }
+    ensures err { OnErr result ((drop start.old bytes.old.items ≡ []) × (drop start.new bytes.new.items ≡ []) × (over.new ≡ over.old)) }
+    ensures ended { over.old ≡ false → over.new ≡ true
+        → GainsAll (S.left source.old) (drop start.old bytes.old.items) (drop start.new bytes.new.items) × BeginsNone 0 (drop start.new bytes.new.items) }
+    ensures over { over.old ≡ true → (source.new ≡ source.old) × (over.new ≡ true) }
+    ensures never_falls { S.faults source.old ≤ S.faults source.new }
+{
+    if *start < bytes.len() || *over {
+        return Ok(());
+    }
+    bytes.clear();
+    *start = 0;
+    *over = read_piece(source, bytes, place)?;
+    Ok(())
 }

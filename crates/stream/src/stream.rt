@@ -1,6 +1,6 @@
 //! A stream of commands.
 
-ghost use Rattle.std.specs.Prelude.{◌≡◌, ◌+◌, ◌-◌, ◌^◌, ◌≤◌, true, false, ⊤, List, [], ◌++◌, length, drop, IfOk, IfErr, IfSome, OnErr, IsErrOf};
+ghost use Rattle.std.specs.Prelude.{◌≡◌, ◌≢◌, ◌+◌, ◌-◌, ◌^◌, ◌≤◌, ℕ, true, false, ⊤, List, [], ◌++◌, length, drop, slice_get, Ok, None, IfOk, IfErr, IfSome, OnErr, IsErrOf};
 ghost use Rattle.std.specs.Io.KnownBytes.{Consumes};
 ghost use Rattle.rv_io.specs.Counts.{Rises};
 ghost use Rattle.script.specs.Grammar.{Spells};
@@ -8,7 +8,7 @@ ghost use Rattle.script.specs.Stream.{BeginsNone, IsUnfinished};
 ghost use Rattle.stream.specs.State.{bytes_of, taken, IsNeeded, IsCause, EndsInText, ConsumesOneMore};
 
 use crate::fault::StreamFault;
-use crate::reading::read_next;
+use crate::reading::{read_first, read_next};
 use rv_io::Source;
 use script::Command;
 use std::alloc::Global;
@@ -64,8 +64,8 @@ impl Stream {
         }
     }
 
-    /// The bytes of the command that `next` gave last: none before the first command and after an error. The text of a
-    /// `put` is `bytes()[from..from + len]`.
+    /// The bytes of the command that `next` gave last: none before the first command, after an error and after a `peek`.
+    /// The text of a `put` is `bytes()[from..from + len]`.
     pub fn bytes(&self) -> &[u8]
         ensures { result.now ≡ self.now.last }
     {
@@ -84,6 +84,54 @@ impl Stream {
         ensures { result ≡ self.now.place }
     {
         self.place
+    }
+
+    /// The first byte that was not acted on, which is read where none is at hand; None where the source told its end.
+    ///
+    /// The source is asked only where no byte is at hand, and no more once it told its end. Nothing is acted on, and the
+    /// bytes of the last command are given up.
+    ///
+    /// `ReadFault` where the source failed; `TooLong` where `LONGEST_INPUT` bytes were taken, all of which were acted on,
+    /// and one more came; `Memory` where there was no memory for a piece; never `Malformed`. Asked again after an error,
+    /// the stream goes on from there. The cost is at most that of one read.
+    pub fn peek<S: Source>(&mut self, source: &mut S) -> Result<Option<u8>, StreamFault>
+        // What is held now is what was pending, and then what was taken. Nothing is acted on.
+        ensures kept { bytes_of self.new ≡ self.old.pending ++ taken self.old self.new }
+        ensures took { (IsErrOf result StreamFault.TooLong → ⊥)
+            → Consumes (S.left source.old) (S.left source.new) (taken self.old self.new) }
+        ensures one_more { IsErrOf result StreamFault.TooLong
+            → ConsumesOneMore (S.left source.old) (S.left source.new) (taken self.old self.new) }
+        ensures needed { IsNeeded self.old.pending (bytes_of self.new) }
+        ensures at_hand { self.old.pending ≢ [] → (source.new ≡ source.old) × (self.new ≡ record self.old { last = [] }) }
+        ensures within { self.new.place + length self.new.pending ≤ 2 ^ 29 }
+        ensures place { self.new.place ≡ self.old.place }
+        ensures empty { self.new.last ≡ [] }
+
+        // The byte is the first that is pending now, and there is none only at the end.
+        ensures found { IfOk result (λ first. first ≡ slice_get self.new.pending 0) }
+        ensures none { result ≡ Ok None → self.new.over ≡ true }
+
+        // Each error has its cause, and comes only of a read that was needed and gave nothing.
+        ensures cause { IfErr result (IsCause (Rises (S.faults source.old) (S.faults source.new)) self.new.place self.new.pending self.new.over) }
+        ensures never_malformed { (at : ℕ) → IsErrOf result (StreamFault.Malformed at) → ⊥ }
+        ensures err { OnErr result ((self.old.pending ≡ []) × (self.new ≡ record self.old { last = [] })) }
+
+        // Where the source told its end, all its bytes were taken, and it is asked no more.
+        ensures ended { self.old.over ≡ false → self.new.over ≡ true
+            → IfSome (S.left source.old) (λ left. taken self.old self.new ≡ left) × BeginsNone 0 (bytes_of self.new) }
+        ensures over { self.old.over ≡ true → (source.new ≡ source.old) × (self.new.over ≡ true) }
+        ensures never_falls { S.faults source.old ≤ S.faults source.new }
+    {
+        let asked = read_first(
+            source,
+            &mut self.bytes,
+            &mut self.start,
+            &mut self.over,
+            self.place,
+        );
+        self.last = self.start;
+        asked?;
+        Ok(self.pending().first().copied())
     }
 
     /// The next command of the input. The `from` of a `put` is a place in the command's own bytes.
