@@ -1,7 +1,1 @@
-pub mod CutTools
-pub mod CutLoops
-pub mod CutCallees
-pub mod CutLaws
-pub mod CutPrograms
-pub mod CutIssues
-pub mod Checked
+pub mod Words

@@ -1,11 +1,11 @@
-//! The taint reviewer for Python. The words `check` read a command stream from standard input, and
+//! The taint reviewer for Python. The words `check` read a command stream from standard input, act on each command, and
 //! write the issues of its files to standard output.
 #![tactic(auto)]
 
 mod calls;
-mod cut;
 
-use calls::{NO_MEMORY, review_main};
+use calls::review_main;
+use check_stream::NO_MEMORY;
 use rv_io::{OpenGate, StdSink, StdSource};
 use std::env;
 use std::process::ExitCode;

@@ -1,5 +1,5 @@
 use Rattle.std.proofs.Common.{arith}
-use Rattle.review.proofs.Checked.{one_word}
+use Rattle.review.proofs.Words.{one_word}
 use Rattle.review.proofs.calls.is_check.Goals as goal
 
 pub returns-in-len1 : goal.returns-in-len1

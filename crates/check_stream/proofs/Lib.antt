@@ -1,0 +1,6 @@
+pub mod Edits
+pub mod Steps
+pub mod Rows
+pub mod Reached
+pub mod Turned
+pub mod Ended

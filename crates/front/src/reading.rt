@@ -1,0 +1,117 @@
+//! What a file is.
+
+ghost use Rattle.std.specs.Prelude.{◌≡◌, ◌≢◌, ◌≤◌, IfOk, IfErr, Some, length};
+ghost use Rattle.project.specs.Items.{Fits};
+ghost use Rattle.project.specs.Paths.{kind_of_path};
+ghost use Rattle.front.specs.Reading.{Accepted, FailsAs, FailsAsConfiguration, FailsAsModels, FailsAsPython, IsConfiguration, IsModels, IsPython, IsText, Misplaced, ReadsAs, Refused, Unread, file_limit};
+ghost use Rattle.front.specs.declared.faults.ReadFault.TheVariants.{Memory};
+
+use crate::faults::ReadFault;
+use project::{Item, PathKind, kind_of_path};
+use py_parser::{FileError, parse};
+use pysa_syntax::{ModelError, read_models};
+use std::alloc::Global;
+use std::sync::Arc;
+use taint_config::{ConfigError, read_config};
+
+/// The greatest number of bytes of a file, 1 MiB.
+const FILE_LIMIT: usize = 1_048_576;
+
+/// What stands at the path: `BadPath` where nothing may.
+fn kind_at(alloc: Global, path: &str) -> Result<PathKind, ReadFault>
+    ensures kind { IfOk result (λ kind. kind_of_path path.now ≡ Some kind) }
+    ensures refused { IfErr result (λ fault. fault ≢ Memory → Misplaced path.now fault) }
+{
+    match kind_of_path(alloc, path)? {
+        Some(kind) => Ok(kind),
+        None => Err(ReadFault::BadPath),
+    }
+}
+
+/// The text of a file: `TooLarge` where it has more than 1 MiB, and else `NotUtf8` where it isn't in UTF-8. Linear in the bytes.
+fn text_of(bytes: &[u8]) -> Result<&str, ReadFault>
+    ensures same { IfOk result (λ text. text.now ≡ bytes.now) }
+    ensures text { IfOk result (λ text. IsText bytes.now) }
+    ensures refused { IfErr result (Unread bytes.now) }
+{
+    if bytes.len() > FILE_LIMIT {
+        return Err(ReadFault::TooLarge);
+    }
+    match str::from_utf8(bytes) {
+        Ok(text) => Ok(text),
+        Err(_) => Err(ReadFault::NotUtf8),
+    }
+}
+
+/// The module of a Python file.
+fn module_item(alloc: Global, text: &str) -> Result<Item, ReadFault>
+    requires { length text.now ≤ file_limit }
+    ensures accepted { IfOk result (IsPython text.now) }
+    ensures refused { IfErr result (λ fault. fault ≢ Memory → FailsAsPython text.now fault) }
+{
+    match parse(alloc, text) {
+        Ok(parsed) => Ok(Item::Module(Arc::new(alloc, parsed)?)),
+        Err(FileError::Memory) => Err(ReadFault::Memory),
+        Err(fault) => Err(ReadFault::Python(fault)),
+    }
+}
+
+/// The models of a model file.
+fn models_item(alloc: Global, text: &str) -> Result<Item, ReadFault>
+    requires { length text.now ≤ file_limit }
+    ensures accepted { IfOk result (IsModels text.now) }
+    ensures refused { IfErr result (λ fault. fault ≢ Memory → FailsAsModels text.now fault) }
+{
+    match read_models(alloc, text) {
+        Ok(decls) => Ok(Item::Models(Arc::new(alloc, decls)?)),
+        Err(ModelError::Memory) => Err(ReadFault::Memory),
+        Err(fault) => Err(ReadFault::Models(fault)),
+    }
+}
+
+/// The configuration of its file.
+fn config_item(alloc: Global, bytes: &[u8]) -> Result<Item, ReadFault>
+    ensures accepted { IfOk result (IsConfiguration bytes.now) }
+    ensures refused { IfErr result (λ fault. fault ≢ Memory → FailsAsConfiguration bytes.now fault) }
+{
+    match read_config(alloc, bytes) {
+        Ok(config) => Ok(Item::Config(Arc::new(alloc, config)?)),
+        Err(ConfigError::Memory) => Err(ReadFault::Memory),
+        Err(fault) => Err(ReadFault::Config(fault)),
+    }
+}
+
+/// The item that the text is, by what stands at its path.
+fn item_as(alloc: Global, kind: &PathKind, text: &str) -> Result<Item, ReadFault>
+    requires { length text.now ≤ file_limit }
+    ensures accepted { IfOk result (ReadsAs kind.now text.now) }
+    ensures refused { IfErr result (λ fault. fault ≢ Memory → FailsAs kind.now text.now fault) }
+{
+    match kind {
+        PathKind::Config => config_item(alloc, text.as_bytes()),
+        PathKind::Models => models_item(alloc, text),
+        PathKind::Module(_) => module_item(alloc, text),
+    }
+}
+
+/// The item of a project that the file with these bytes at the path is, or the first cause for which it is refused:
+///
+/// * `BadPath`: nothing may stand at the path (`project::kind_of_path`);
+/// * `TooLarge`: it has more than 1 MiB, which is 1,048,576 bytes;
+/// * `NotUtf8`: the bytes are no text in UTF-8 (RFC 3629);
+/// * `Python`, `Models` or `Config`: the one fault of the text, as the reader of such a file tells it (`py_parser::parse`,
+///   `pysa_syntax::read_models`, `taint_config::read_config`);
+/// * `Memory` comes only where there is no memory left, at any point; a reader's own `Memory` is this one.
+///
+/// The text of a Python file is copied; of the others nothing of the bytes is kept but names and strings. Linear in the path and
+/// the bytes, but for the hashes of names and for the sorting of the keys of each object of a configuration.
+#[tactic(auto, using(crate::proofs::Files::accepted, crate::proofs::Files::fits, crate::proofs::Files::misplaced, crate::proofs::Files::misread, crate::proofs::Files::unreadable))]
+pub fn read_file(alloc: Global, path: &str, bytes: &[u8]) -> Result<Item, ReadFault>
+    ensures accepted { IfOk result (Accepted path.now bytes.now) }
+    ensures fits { IfOk result (Fits path.now) }
+    ensures refused { IfErr result (λ fault. fault ≢ Memory → Refused path.now bytes.now fault) }
+{
+    let kind = kind_at(alloc, path)?;
+    let text = text_of(bytes)?;
+    item_as(alloc, &kind, text)
+}
