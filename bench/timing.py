@@ -7,9 +7,14 @@ import subprocess
 ROOT = os.path.join(os.path.dirname(os.path.abspath(__file__)), "..")
 
 
+def program(name):
+    """The path of a program, which `tools/program` builds where it must."""
+    return subprocess.run([os.path.join(ROOT, "tools", "program"), name], capture_output=True, text=True, check=True).stdout.strip()
+
+
 def dump():
-    """The path of the program `dump`, which `tools/program` builds where it must."""
-    return subprocess.run([os.path.join(ROOT, "tools", "program"), "dump"], capture_output=True, text=True, check=True).stdout.strip()
+    """The path of the program `dump`."""
+    return program("dump")
 
 
 def best(run, whose, times):
