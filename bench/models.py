@@ -3,7 +3,7 @@
 
 A third of the declarations are sources, a third sinks, and a third have three parameters with marks; each name is declared once, but
 every tenth declaration is of a name that was declared before. Prints how many times as long the greater file takes (the aim is at most
-2.2 times). Times are processor seconds, the best of five runs, with the start of the process taken off.
+2.2 times). Times are processor seconds, the best of fifteen runs, with the start of the process taken off.
 """
 
 import resource
@@ -40,9 +40,9 @@ def main():
 
         return run
 
-    start = best(read(1), resource.RUSAGE_CHILDREN, 5)
-    short = best(read(SIZE), resource.RUSAGE_CHILDREN, 5) - start
-    long = best(read(2 * SIZE), resource.RUSAGE_CHILDREN, 5) - start
+    start = best(read(1), resource.RUSAGE_CHILDREN, 15)
+    short = best(read(SIZE), resource.RUSAGE_CHILDREN, 15) - start
+    long = best(read(2 * SIZE), resource.RUSAGE_CHILDREN, 15) - start
     print(f"models: {2 * SIZE} declarations read and asked in {long:.3f} s; {long / short:.2f} times as long as half of them")
 
 
