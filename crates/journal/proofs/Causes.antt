@@ -55,6 +55,16 @@ over_none m count h c few =
     ap (λ b. cond b (Some which.Callables) None) (sym (capped_within (callables_in m) (subst (λ z. z ≤ 65535) c few)))
     ∙ ap (λ o. or_else o (many_callables m)) (sym h)
 
+pub over_within : (m : FileMap) → first_over m ≡ None → nat_le (capped (callables_in m)) callables_limit ≡ true → None ≡ over m
+over_within m h within = over_none m (capped (callables_in m)) h refl (at_most (capped (callables_in m)) within)
+  where
+    at_most : (n : ℕ) → nat_le n 65535 ≡ true → n ≤ 65535
+    at_most n h = grind (arith, nat_tests)
+
+pub none_of : (o : Option Which) → ((w : Which) → o ≡ Some w → ⊥) → o ≡ None
+none_of None h = refl
+none_of (Some w) h = absurd (h w refl)
+
 -- a drop takes no count of files or text past its limit
 pub none_over_drop : (m : FileMap) (path : Bytes) → AreFiles m → first_over (remove m path) ≡ None
 none_over_drop m path are =

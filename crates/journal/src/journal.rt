@@ -103,28 +103,6 @@ impl Journal {
         self.number >= EDITS_LIMIT || self.kept + more as u64 > KEPT_LIMIT
     }
 
-    // Why a put is refused.
-    fn put_fault(
-        &self,
-        path: &Text,
-        item: &Arc<Item>,
-        len: u32,
-    ) -> Result<Option<EditFault>, Memory>
-        requires fits { Fits path.now (arc_value item.now) }
-        ensures { IfOk result (λ fault. fault ≡ edit_fault self.now (edits.Put path.now item.now len)) }
-    {
-        if self.is_full(len) {
-            return Ok(Some(EditFault::JournalFull));
-        }
-        if let Some(which) = self.files.over_with(path, len) {
-            return Ok(Some(EditFault::ProjectFull(which)));
-        }
-        if self.files.callables_with(path, item, len)? > CALLABLES_LIMIT {
-            return Ok(Some(EditFault::ProjectFull(Which::Callables)));
-        }
-        Ok(None)
-    }
-
     // Why a drop is refused.
     fn drop_fault(&self, path: &Text) -> Option<EditFault>
         ensures { result ≡ edit_fault self.now (edits.Drop path.now) }
@@ -153,8 +131,15 @@ impl Journal {
         ensures told { (fault : EditFault) → fault ≢ NoMemory → result ≡ Err fault → edit_fault self.old (edits.Put path item len) ≡ Some fault }
         ensures err { OnErr result (self.new ≡ self.old) }
     {
-        if let Some(fault) = self.put_fault(&path, &item, len)? {
-            return Err(fault);
+        if self.is_full(len) {
+            return Err(EditFault::JournalFull);
+        }
+        let few = self
+            .files
+            .callables_within(&path, &item, len, CALLABLES_LIMIT)?;
+        if !few {
+            let which = self.files.over_with(&path, len);
+            return Err(EditFault::ProjectFull(which.unwrap_or(Which::Callables)));
         }
         match self.files.put(path, item, len) {
             Ok(()) => {
@@ -162,7 +147,6 @@ impl Journal {
                 self.kept += len as u64;
                 Ok(self.number)
             }
-            // It never comes, since the counts were asked before.
             Err(FilesError::Full(which)) => Err(EditFault::ProjectFull(which)),
             Err(FilesError::Memory) => Err(EditFault::Memory),
         }

@@ -8,8 +8,6 @@
 mod edit;
 mod faults;
 mod journal;
-#[cfg(test)]
-mod tests;
 
 pub use edit::ReadEdit;
 pub use faults::EditFault;

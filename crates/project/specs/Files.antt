@@ -1,5 +1,5 @@
 -- The live files of a project: a finite map from a path to the file there.
-use Rattle.std.specs.Prelude.{◌≡◌, ℕ, ◌≤◌, nat_lt, Bool, false, cond, IsTrue, List, if◌then◌else◌, Option, Some, None}
+use Rattle.std.specs.Prelude.{◌≡◌, ℕ, ◌+◌, ◌≤◌, nat_le, nat_lt, ◌&&◌, Bool, false, cond, IsTrue, List, if◌then◌else◌, Option, Some, None}
 use Rattle.std.specs.List.{sum_by}
 use Rattle.std.specs.FinMap.{FinMap, contains_key, entries, from_sorted, get, insert, is_sorted, len}
 use Rattle.rv_names.specs.Keys.{Bytes, bytes_order}
@@ -40,11 +40,18 @@ text_limit = 33554432
 unfoldable pub text_of : FileMap → ℕ
 text_of files = sum_by (λ (e : Bytes × FileParts). e.1.len) (entries files)
 
--- the first of the two counts that is past its limit
+-- the first of these two counts that is past its limit
+abbrev pub first_past : ℕ → ℕ → Option Which
+first_past files text =
+    if nat_lt files_limit files then Some which.Files else (
+    if nat_lt text_limit text then Some which.Text else None)
+
 abbrev pub first_over : FileMap → Option Which
-first_over files =
-    if nat_lt files_limit (len files) then Some which.Files else (
-    if nat_lt text_limit (text_of files) then Some which.Text else None)
+first_over files = first_past (len files) (text_of files)
+
+-- there is room for one more file of so much text
+abbrev pub has_room : FileMap → ℕ → Bool
+has_room files more = nat_lt (len files) files_limit && nat_le (text_of files + more) text_limit
 
 -- what holds of the files of every project
 pub record AreFiles (files : FileMap) : Type 0 where

@@ -1,6 +1,6 @@
 //! The live files of a project.
 
-ghost use Rattle.std.specs.Prelude.{◌≡◌, ◌≤◌, ◌↔◌, ℕ, Some, Err, IfOk, OnOk, OnErr, IsTrue, false, min};
+ghost use Rattle.std.specs.Prelude.{◌≡◌, ◌≤◌, ◌↔◌, Some, Err, IfOk, OnOk, OnErr, IsTrue, false, nat_le};
 ghost use Rattle.std.specs.Arc.{arc_value};
 ghost use Rattle.std.specs.Option.{option_copied};
 ghost use Rattle.std.specs.FinMap.{contains_key, empty, entries, get, insert, len, remove};
@@ -8,7 +8,7 @@ ghost use Rattle.project.specs.declared.faults.FilesError.TheVariants.{Full};
 ghost use Rattle.project.specs.declared.faults.Which.{Which};
 ghost use Rattle.project.specs.declared.item.Item.{Item};
 ghost use Rattle.project.specs.Callables.{capped, item_callables};
-ghost use Rattle.project.specs.Files.{AreFiles, first_over, given_by, given_by_all, is_hidden, text_of, with_file};
+ghost use Rattle.project.specs.Files.{AreFiles, first_over, given_by, given_by_all, has_room, is_hidden, text_of, with_file};
 ghost use Rattle.project.specs.Items.{Fits};
 ghost use Rattle.project.specs.Modules.{callables_in};
 ghost use Rattle.project.specs.Sums.{beneath};
@@ -17,18 +17,13 @@ use crate::faults::{FilesError, Which};
 use crate::file::File;
 use crate::item::Item;
 use crate::neighbour::Neighbour;
+use crate::sums::{FILES_LIMIT, TEXT_LIMIT, first_past, replaced, shown, text_at};
 use rv_names::{Memory, Text};
 use std::alloc::Global;
 use std::collections::BTreeMap;
 use std::collections::btree_map::Iter;
 use std::marker::Model;
 use std::sync::Arc;
-
-/// The greatest number of live files.
-const FILES_LIMIT: usize = 4096;
-
-/// The greatest number of bytes of all live texts.
-const TEXT_LIMIT: u64 = 33_554_432;
 
 /// The live files of a project, as a finite map from the path to the file. There are at most 4,096, and their texts have at most
 /// 32 MiB.
@@ -124,16 +119,16 @@ impl Files {
     }
 
     /// The first of the counts of files and of text that a put would take past its limit, for a text of `len` bytes. It compares with
-    /// about log n paths of n, and takes no memory.
+    /// about log n paths of n where one of them is near its limit, and else with none. It takes no memory.
     pub fn over_with(&self, path: &Text, len: u32) -> Option<Which>
         ensures { (item : Item) → result ≡ first_over (with_file self.now path.now item len) }
     {
-        if self.len_with(path) > FILES_LIMIT {
-            Some(Which::Files)
-        } else if self.text_with(path, len) > TEXT_LIMIT {
-            Some(Which::Text)
-        } else {
-            None
+        if self.has_room(len) {
+            return None;
+        }
+        match self.live.get(path) {
+            None => first_past(self.live.len() + 1, self.text + len as u64),
+            Some(old) => first_past(self.live.len(), self.text + len as u64 - old.len() as u64),
         }
     }
 
@@ -144,8 +139,9 @@ impl Files {
     ///   out;
     /// * `Memory` where there is no memory left.
     ///
-    /// After each of them nothing has changed. It compares with about log n paths of n, and is linear in the path and in the top
-    /// level of a module and the bodies of its classes.
+    /// After each of them nothing has changed. It searches the paths for the neighbour and for the path, and once more for the path
+    /// where a count is near its limit; each search compares with about log n paths of n. It is linear in the path and in the top level of
+    /// a module and the bodies of its classes.
     pub fn put(&mut self, path: Text, item: Arc<Item>, len: u32) -> Result<(), FilesError>
         requires fits { Fits path (arc_value item) }
         ensures files { OnOk result (self.new ≡ with_file self.old path (arc_value item) len) }
@@ -157,11 +153,12 @@ impl Files {
         }
         let key = path.copy()?;
         let file = File::new(self.alloc, path, item, len)?;
-        let text = self.text_with(&key, len);
-        let given = self.given_with(&file);
-        self.live.insert(key, file)?;
-        self.text = text;
-        self.given = given;
+        let hidden = self.is_hidden(&file);
+        let beneath = self.beneath(&file);
+        let more = self.given + shown(hidden, &file);
+        let old = self.live.insert(key, file)?;
+        self.text = self.text + len as u64 - text_at(old.as_ref());
+        self.given = more - replaced(hidden, beneath, old.as_ref());
         Ok(())
     }
 
@@ -197,6 +194,24 @@ impl Files {
         Ok(self.given_with(&file).min(u32::MAX as u64) as u32)
     }
 
+    /// Whether they would have at most `most` callables after a put. Where their counts alone tell, it is linear in the top level of a
+    /// module and the bodies of its classes, and else it costs what a put does.
+    pub fn callables_within(
+        &self,
+        path: &Text,
+        item: &Arc<Item>,
+        len: u32,
+        most: u32,
+    ) -> Result<bool, Memory>
+        requires fits { Fits path.now (arc_value item.now) }
+        ensures { IfOk result (λ within. within ≡ nat_le (capped (callables_in (with_file self.now path.now (arc_value item.now) len))) most) }
+    {
+        if self.given + item.callables() as u64 <= most as u64 {
+            return Ok(true);
+        }
+        Ok(self.callables_with(path, item, len)? <= most)
+    }
+
     /// How many callables they would have after a drop, which may show a file that was hidden, and at most the greatest `u32`. It
     /// compares with about log n paths of n, and takes no memory.
     pub fn callables_without(&self, path: &Text) -> u32
@@ -216,26 +231,11 @@ impl Files {
         }
     }
 
-    // How many files there would be after a put.
-    fn len_with(&self, path: &Text) -> usize
-        ensures { (item : Item) (length : ℕ) → result ≡ len (with_file self.now path.now item length) }
+    // Whether the counts alone show that a put of so much text passes no limit, whatever stands at its path.
+    fn has_room(&self, len: u32) -> bool
+        ensures { result ≡ has_room self.now len }
     {
-        if self.live.contains_key(path) {
-            self.live.len()
-        } else {
-            self.live.len() + 1
-        }
-    }
-
-    // The bytes of all texts after a put.
-    fn text_with(&self, path: &Text, len: u32) -> u64
-        ensures { (item : Item) → result ≡ text_of (with_file self.now path.now item len) }
-    {
-        let old = match self.live.get(path) {
-            None => 0,
-            Some(file) => file.len() as u64,
-        };
-        self.text + len as u64 - old
+        self.live.len() < FILES_LIMIT && self.text + len as u64 <= TEXT_LIMIT
     }
 
     // The bytes of all texts after a drop.
@@ -253,11 +253,7 @@ impl Files {
         ensures value { result ≡ given_by self.now file.now.path file.now.item }
         ensures small { result ≤ 4294967295 }
     {
-        if self.is_hidden(file) {
-            0
-        } else {
-            file.callables() as u64
-        }
+        shown(self.is_hidden(file), file)
     }
 
     // The callables of the file that this one would hide, where that is live.
@@ -279,11 +275,10 @@ impl Files {
     fn given_with(&self, file: &File) -> u64
         ensures { result ≡ given_by_all (insert self.now file.now.path file.now) }
     {
-        let more = self.given + self.given_by(file);
-        match self.live.get(file.path()) {
-            None => more - self.beneath(file),
-            Some(old) => more - self.given_by(old),
-        }
+        let hidden = self.is_hidden(file);
+        let beneath = self.beneath(file);
+        let old = self.live.get(file.path());
+        self.given + shown(hidden, file) - replaced(hidden, beneath, old)
     }
 
     // The callables of all files once none stands at a path.

@@ -8,7 +8,8 @@
 //! * `edit`: an `Edit`, and the law that `Files` changes by edits;
 //! * `faults`: why an edit is refused;
 //! * `callables`: how many callables a module has;
-//! * `neighbour`: the other file that would be the same module.
+//! * `neighbour`: the other file that would be the same module;
+//! * `sums`: what one file is of the counts of a project.
 #![tactic(auto)]
 
 mod callables;
@@ -20,8 +21,7 @@ mod item;
 mod modules;
 mod neighbour;
 mod path;
-#[cfg(test)]
-mod tests;
+mod sums;
 
 pub use callables::callables_of;
 pub use edit::{Edit, one_step};

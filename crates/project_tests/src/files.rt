@@ -1,6 +1,6 @@
 //! What no clause says: that the calls succeed, over paths and files by hand.
 
-use super::*;
+use project::{Files, Item, PathKind, Which, kind_of_path};
 use py_ast::Modules;
 use rv_names::Text;
 use std::alloc::{AllocError, Global};
@@ -49,14 +49,15 @@ fn paths(rt: HostRuntime) -> Result<(), Fail> {
     Ok(())
 }
 
-/// Puts a configuration, where the path is one of a configuration.
+/// Puts a configuration, where the path is one of a configuration, and tells whether no callables come with it.
 fn put_config(alloc: Global, files: &mut Files, path: &Text, config: Config) -> Result<bool, Fail> {
     let config = Arc::new(alloc, config)?;
     match kind_of_path(alloc, path.as_str())? {
         Some(PathKind::Config) => {
             let item = Arc::new(alloc, Item::Config(config))?;
+            let none = files.callables_within(path, &item, 5, 0)?;
             files.put(path.copy()?, item, 5)?;
-            Ok(true)
+            Ok(none)
         }
         _ => Ok(false),
     }

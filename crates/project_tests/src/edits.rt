@@ -1,6 +1,6 @@
 //! What no clause says: that the calls succeed.
 
-use super::*;
+use journal::{EditFault, Journal, ReadEdit};
 use project::{Item, PathKind, kind_of_path};
 use rv_names::Text;
 use std::alloc::Global;
