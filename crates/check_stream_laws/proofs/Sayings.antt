@@ -15,7 +15,7 @@ use Rattle.journal.specs.declared.faults.EditFault.{EditFault}
 use Rattle.journal.specs.Journal.{edit_fault, edited, is_absent, kept_by}
 use Rattle.front.specs.declared.faults.ReadFault.{ReadFault}
 use Rattle.front.specs.Reading.{Accepted, Refused}
-use Rattle.front.proofs.OneReading.{one_fault, one_reading, one_item}
+use Rattle.front_laws.proofs.OneReading.{one_fault, one_reading, one_item}
 use Rattle.edit_lines.specs.Lines.{kept_line, misread_line, fault_line, sync_line}
 use Rattle.check_stream.specs.Progress.{Progress, keeping, refusing}
 use Rattle.check_stream.specs.Acts.{path_of, Edits, kept, refused, Puts, misread, read, Acts, Said}

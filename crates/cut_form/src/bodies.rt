@@ -161,10 +161,10 @@ fn defined_body(alloc: Global, stmt: &Stmt) -> Result<Body, Refusal>
 
 /// What a file does that imports `os` and defines a function. Linear in the file.
 #[tactic(auto, unfolding(crate::specs::Bodies::app_of))]
-pub fn app_of(alloc: Global, module: &Module) -> Result<Body, Refusal>
-    ensures { Gives (λ body. body) result (app_of module.now) }
+pub fn app_of(alloc: Global, file: &Module) -> Result<Body, Refusal>
+    ensures { Gives (λ body. body) result (app_of file.now) }
 {
-    match module.body.as_slice() {
+    match file.body.as_slice() {
         [first, second] => {
             if imports_os(first) {
                 defined_body(alloc, second)

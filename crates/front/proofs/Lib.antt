@@ -1,3 +1,1 @@
 pub mod Files
-pub mod Texts
-pub mod OneReading

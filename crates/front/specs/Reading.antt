@@ -6,7 +6,7 @@ use Rattle.std.specs.Str.{IsUtf8}
 use Rattle.rv_names.specs.Keys.{Bytes}
 use Rattle.py_ast.specs.Parsed.{Kept, IsSpelled}
 use Rattle.py_ast.specs.ScopeFaults.{HasNoScopeFault}
-use Rattle.py_judgement.specs.Answers.{IsFaulty}
+use Rattle.py_parser.specs.Refusals.{IsFaulty}
 use Rattle.pysa_syntax.specs.Faults.{HasModels}
 use Rattle.pysa_syntax.specs.Laws.{HasFault}
 use Rattle.taint_config.specs.Config.{ConfigParts, file_config}

@@ -1,14 +1,13 @@
 //! Files as they are read: a Python file, a model file, or the configuration, by the path.
 //!
 //! * `reading`: `read_file`, the item of a project that a file is, or why it is refused;
-//! * `faults`: a `ReadFault`, why a file is refused, and how that is printed;
-//! * `laws`: what holds of each file: it is one item, or else it has one fault.
+//! * `faults`: a `ReadFault`, why a file is refused, and how that is printed.
+//!
+//! What holds of each file (it is one item, or else it has one fault) is in the crate `front_laws`.
 #![tactic(auto)]
 
 mod faults;
-mod laws;
 mod reading;
 
 pub use faults::ReadFault;
-pub use laws::{one_fault, one_item, one_reading};
 pub use reading::read_file;

@@ -16,8 +16,8 @@ use Rattle.py_parser.specs.declared.parsing.FileError.TheVariants.{Lex, Syntax, 
 use Rattle.py_parser.specs.declared.reading.GrammarError.{GrammarError}
 use Rattle.py_parser.specs.declared.reading.GrammarError.TheVariants as errors
 use Rattle.py_parser.specs.Faults.{IsModule, Refused}
-use Rattle.py_parser.specs.Refusals.{IsUnspelled, HasScopeFault}
-use Rattle.py_judgement.specs.Answers.{IsFaulty, HasOneReading}
+use Rattle.py_parser.specs.Refusals.{IsUnspelled, HasScopeFault, IsFaulty}
+use Rattle.py_judgement.specs.Answers.{HasOneReading}
 use Rattle.py_judgement.proofs.OneAnswer.{one-tree, one_answer}
 
 -- what is wrong with a text: its characters, its tokens, or its names

@@ -6,19 +6,14 @@ use Rattle.py_ast.specs.Parsed.{IsSpelled}
 use Rattle.py_ast.specs.ScopeFaults.{HasNoScopeFault}
 use Rattle.py_ast.specs.declared.statement.Module.{Module}
 use Rattle.py_parser.specs.declared.parsing.FileError.{FileError}
-use Rattle.py_parser.specs.declared.parsing.FileError.TheVariants as answers
 use Rattle.py_parser.specs.declared.reading.GrammarError.{GrammarError}
 use Rattle.py_parser.specs.declared.reading.GrammarError.TheVariants as errors
 use Rattle.py_parser.specs.Faults.{Judged}
-use Rattle.py_parser.specs.Refusals.{IsRefused}
+use Rattle.py_parser.specs.Refusals.{IsFaulty}
 
 -- an answer of tokens
 abbrev pub Answers : List Token → Result Module GrammarError → Type 0
 Answers ts r = Judged ts r × (r ≡ Err errors.Memory → ⊥)
-
--- the answer in place of a text's module
-abbrev pub IsFaulty : Bytes → FileError → Type 0
-IsFaulty text fault = IsRefused text fault × (fault ≡ answers.Memory → ⊥)
 
 -- a text has one module whose scopes have no fault, or one fault, and never both
 pub record HasOneReading (text : Bytes) : Type 0 where

@@ -1,5 +1,2 @@
-pub mod Firsts
 pub mod Inside
-pub mod Never
-pub mod Plain
 pub mod Verdicts

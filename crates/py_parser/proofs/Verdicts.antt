@@ -1,7 +1,7 @@
 -- What the outcome of reading a file says of its tokens.
-use Rattle.std.proofs.Common.{◌≡◌, ℕ, ◌+◌, ◌-◌, ◌<◌, ◌≤◌, List, [], ◌∷◌, ◌++◌, length, take, get_or, Some, None, refl, sym, subst, ◌∙◌, ap, arith, length-append}
+use Rattle.std.specs.Prelude.{IfSome}
+use Rattle.std.proofs.Common.{◌≡◌, ℕ, inl, inr, Option, ◌+◌, ◌-◌, ◌<◌, ◌≤◌, List, [], ◌∷◌, ◌++◌, length, get_or, Some, None, refl, sym, subst, ◌∙◌, ap, arith, length-append}
 use Rattle.std.specs.List.{flat_map}
-use Rattle.std.proofs.Math.Seq.{take-append_seam}
 use Rattle.std.proofs.lemmas.Option.{slice_get-get_or}
 use Rattle.phrases.specs.Reading.{Outcome, Read, Stuck}
 use Rattle.phrases.specs.Verdict.{Longest, StopsAt, TooDeepAt, Means}
@@ -10,11 +10,11 @@ use Rattle.phrases.proofs.Sets.{append_none}
 use Rattle.py_literals.specs.declared.place.Pos.{Pos}
 use Rattle.py_lexer.specs.declared.token.Token.{Token}
 use Rattle.py_forms.specs.declared.telling.ToldForm.{ToldForm}
-use Rattle.py_forms.specs.Statements.{told_in_file}
+use Rattle.later_forms.specs.Later.{told_on_line, told_before}
 use Rattle.py_ast.specs.Files.{file, module_of}
 use Rattle.py_ast.specs.declared.statement.Stmt.{Stmt}
 use Rattle.py_ast.proofs.FileLaws.{file-means}
-use Rattle.py_parser.specs.Faults.{IsModule, Ends, SyntaxStop, StopPlace, IsSyntax, IsUnsupported}
+use Rattle.py_parser.specs.Faults.{IsModule, Ends, SyntaxStop, StopPlace, IsSyntax, IsUnsupported, IsTooDeep, StandsAt, Tells}
 
 means : (ts : List Token) (o : Outcome Token (List (List Stmt))) → o ≡ (file 100).read ts → Means file 100 ts o
 means ts o e = rw e (file-means 100 ts)
@@ -50,10 +50,8 @@ too_deep ts rest e = means ts (Stuck TooDeep rest) (sym e)
 
 -- ---- the run before the stop
 
-pub run_is : (ts run rest : List Token) → ts ≡ run ++ rest → take (length ts - length rest) ts ≡ run
-run_is ts run rest e =
-    let n : length (run ++ rest) - length rest ≡ length run = omega (arith, length-append run rest) in
-    rw (e, n) (take-append_seam run rest)
+pub count_is : (ts run rest : List Token) → ts ≡ run ++ rest → length ts - length rest ≡ length run
+count_is ts run rest e = let n : length ts ≡ length run + length rest = ap length e ∙ length-append run rest in omega arith
 
 pub rest_fits : (ts run rest : List Token) → ts ≡ run ++ rest → length rest ≤ length ts
 rest_fits ts run rest e = rw e (omega (arith, length-append run rest))
@@ -78,21 +76,30 @@ stops_left ts lines (t ∷ rest) e n = stops_behind ts lines t rest e
 
 -- ---- places and forms
 
-same-run : (ts rest run : List Token) (s : SyntaxStop ts rest) → run ≡ take (length ts - length rest) ts → run ≡ s.run
-same-run ts rest run s r = r ∙ run_is ts s.run rest s.split
+moved : (told : List Token → ℕ → Option ToldForm) (ts : List Token) (i j : ℕ) (o p : Option ToldForm) → i ≡ j → o ≡ p → o ≡ told ts i → told ts j ≡ p
+moved told ts i j o p e same h = ap (told ts) (sym e) ∙ sym h ∙ same
 
-pub syntax_is : (ts rest run : List Token) (place : Pos) → SyntaxStop ts rest → None ≡ told_in_file run rest → run ≡ take (length ts - length rest) ts → StopPlace ts rest place → IsSyntax ts place
-syntax_is ts rest run place s told r stop =
-    (rest, s, subst (λ (x : List Token). told_in_file x rest ≡ None) (same-run ts rest run s r) (sym told), stop)
+pub syntax_is : (ts rest : List Token) (place : Pos) (o : Option ToldForm) → SyntaxStop ts rest → o ≡ None → o ≡ told_on_line ts (length ts - length rest) → StopPlace ts rest place → IsSyntax ts place
+syntax_is ts rest place o s none told stop =
+    (rest, s, moved told_on_line ts (length ts - length rest) (length s.run) o None (count_is ts s.run rest s.split) none told, stop)
 
-within-file : (ts rest run : List Token) (i : ℕ) (s : SyntaxStop ts rest) → run ≡ s.run → i ≤ length run → 0 < length rest → i < length ts
-within-file ts rest run i s same within behind =
-    let n : length run ≡ length s.run = ap length same in
-    let all : length ts ≡ length s.run + length rest = ap length s.split ∙ length-append s.run rest in
-    omega arith
+pub deep_is : (ts rest : List Token) (place : Pos) (o : Option ToldForm) → TooDeepAt file 100 ts rest → o ≡ None → o ≡ told_before ts (length ts - length rest) → StopPlace ts rest place → IsTooDeep ts place
+deep_is ts rest place o d none told stop =
+    (rest, d, moved told_before ts (length ts - length rest) (length d.run) o None (count_is ts d.run rest d.split) none told, stop)
 
-pub unsupported_is : (ts rest run : List Token) (found : ToldForm) (d : Token) → SyntaxStop ts rest → Some found ≡ told_in_file run rest → run ≡ take (length ts - length rest) ts → found.place ≤ length run → 0 < length rest → IsUnsupported ts found.form (get_or ts found.place d).at
-unsupported_is ts rest run found d s told r within behind =
-    let same : run ≡ s.run = same-run ts rest run s r in
-    let inside : found.place < length ts = within-file ts rest run found.place s same within behind in
-    (rest, s, found, subst (λ (x : List Token). told_in_file x rest ≡ Some found) same (sym told), refl, (get_or ts found.place d, slice_get-get_or ts found.place d inside, refl))
+stands : (ts : List Token) (i : ℕ) (t : Token) → i < length ts → StandsAt ts i (get_or ts i t).at
+stands ts i t inside = (get_or ts i t, slice_get-get_or ts i t inside, refl)
+
+within : (ts : List Token) (o : Option ToldForm) (found : ToldForm) → o ≡ Some found → IfSome o (λ f. f.place < length ts) → found.place < length ts
+within ts None found some inside = absurd (cc some)
+within ts (Some f) found some inside = let same : f ≡ found = cc some in subst (λ (x : ToldForm). x.place < length ts) same inside
+
+pub told_at_stop : (ts rest : List Token) (o : Option ToldForm) (found : ToldForm) (t : Token) → SyntaxStop ts rest → o ≡ Some found → o ≡ told_on_line ts (length ts - length rest) → IfSome o (λ f. f.place < length ts) → IsUnsupported ts found.form (get_or ts found.place t).at
+told_at_stop ts rest o found t s some told inside =
+    let h = moved told_on_line ts (length ts - length rest) (length s.run) o (Some found) (count_is ts s.run rest s.split) some told in
+    inl (rest, s, (found, h, refl, stands ts found.place t (within ts o found some inside)))
+
+pub told_behind_deep : (ts rest : List Token) (o : Option ToldForm) (found : ToldForm) (t : Token) → TooDeepAt file 100 ts rest → o ≡ Some found → o ≡ told_before ts (length ts - length rest) → IfSome o (λ f. f.place < length ts) → IsUnsupported ts found.form (get_or ts found.place t).at
+told_behind_deep ts rest o found t d some told inside =
+    let h = moved told_before ts (length ts - length rest) (length d.run) o (Some found) (count_is ts d.run rest d.split) some told in
+    inr (rest, d, (found, h, refl, stands ts found.place t (within ts o found some inside)))

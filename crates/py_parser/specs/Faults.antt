@@ -1,7 +1,7 @@
 -- What the grammar says of the tokens of a file: the module that they spell, or the place of the fault. A fault of syntax stands
 -- at the last token of the shortest part from the front with which no spelled list begins, or at the last token of all where
 -- each part begins one and the whole is none. One nesting too many is opened by the token that opens it.
-use Rattle.std.specs.Prelude.{◌≡◌, ℕ, List, [], ◌∷◌, ◌++◌, Option, Some, None, Result, Ok, Err, slice_get}
+use Rattle.std.specs.Prelude.{◌≡◌, ◌⊎◌, ℕ, List, [], ◌∷◌, ◌++◌, length, Option, Some, None, Result, Ok, Err, slice_get}
 use Rattle.phrases.specs.Verdict.{Spelled, Viable, IsShallow, TooDeepAt}
 use Rattle.phrases.specs.declared.fault.Stop.{Stop}
 use Rattle.phrases.specs.declared.fault.Stop.TheVariants as stops
@@ -10,7 +10,7 @@ use Rattle.py_literals.specs.declared.place.Pos.{Pos}
 use Rattle.py_lexer.specs.declared.token.Token.{Token}
 use Rattle.py_lexer.specs.declared.form.Form.{Form}
 use Rattle.py_forms.specs.declared.telling.ToldForm.{ToldForm}
-use Rattle.py_forms.specs.Statements.{told_in_file}
+use Rattle.later_forms.specs.Later.{told_on_line, told_before}
 use Rattle.py_ast.specs.Files.{file, module_of}
 use Rattle.py_ast.specs.declared.statement.Module.{Module}
 use Rattle.py_ast.specs.declared.statement.Stmt.{Stmt}
@@ -51,17 +51,23 @@ StopPlace ts (t ∷ rest) place = t.at ≡ place
 abbrev pub StandsAt : List Token → ℕ → Pos → Type 0
 StandsAt ts i place = (t : Token) × (slice_get ts i ≡ Some t) × (t.at ≡ place)
 
--- no form that is left out is told behind the run
+-- no form that is left out is told where reading stops, nor one that begins before by what stands further on the line
 abbrev pub IsSyntax : List Token → Pos → Type 0
-IsSyntax ts place = (rest : List Token) × (s : SyntaxStop ts rest) × (told_in_file s.run rest ≡ None) × StopPlace ts rest place
+IsSyntax ts place = (rest : List Token) × (s : SyntaxStop ts rest) × (told_on_line ts (length s.run) ≡ None) × StopPlace ts rest place
 
--- one is told, and begins at the place
+-- the form that is told begins at the place
+abbrev pub Tells : List Token → Option ToldForm → Form → Pos → Type 0
+Tells ts told form place = (found : ToldForm) × (told ≡ Some found) × (found.form ≡ form) × StandsAt ts found.place place
+
+-- one is told where reading stops or further on the line, or one that begins before a token that opens a nesting too many, by what stands
+-- behind it on the line
 abbrev pub IsUnsupported : List Token → Form → Pos → Type 0
 IsUnsupported ts form place =
-    (rest : List Token) × (s : SyntaxStop ts rest) × (found : ToldForm) × (told_in_file s.run rest ≡ Some found) × (found.form ≡ form) × StandsAt ts found.place place
+    ((rest : List Token) × (s : SyntaxStop ts rest) × Tells ts (told_on_line ts (length s.run)) form place)
+    ⊎ ((rest : List Token) × (d : TooDeepAt file deepest ts rest) × Tells ts (told_before ts (length d.run)) form place)
 
 abbrev pub IsTooDeep : List Token → Pos → Type 0
-IsTooDeep ts place = (rest : List Token) × TooDeepAt file deepest ts rest × StopPlace ts rest place
+IsTooDeep ts place = (rest : List Token) × (d : TooDeepAt file deepest ts rest) × (told_before ts (length d.run) ≡ None) × StopPlace ts rest place
 
 abbrev pub Stopped : List Token → Stop Token → Type 0
 Stopped ts stops.Memory = Unit {0}

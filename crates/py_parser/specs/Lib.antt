@@ -1,5 +1,4 @@
 pub mod Lines
-pub mod Literals
 pub mod Suites
 pub mod Faults
 pub mod Refusals

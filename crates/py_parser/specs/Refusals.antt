@@ -32,3 +32,7 @@ IsRefused text (answers.Unsupported form place) = IsUnspelled text (errors.Unsup
 IsRefused text (answers.TooDeep place) = IsUnspelled text (errors.TooDeep place)
 IsRefused text (answers.Twice name place) = HasScopeFault text (faults.Twice name place)
 IsRefused text answers.Memory = Unit {0}
+
+-- such an answer where memory doesn't run out
+abbrev pub IsFaulty : Bytes → FileError → Type 0
+IsFaulty text fault = IsRefused text fault × (fault ≡ answers.Memory → ⊥)

@@ -13,9 +13,6 @@ ghost use Rattle.py_ast.specs.Statements.{block, branch, else_block, if_stmt, wh
 ghost use Rattle.py_ast.specs.Files.{suites, compound, single};
 ghost use Rattle.py_parser.specs.Suites.{ReadsSuites};
 
-use crate::names::loop_names_of;
-use crate::simple::{NESTINGS, word_stmt};
-use crate::words::{COLON, ELIF, ELSE, FOR, IF, IN, WHILE};
 use phrases::many;
 use py_ast::{Branch, NameAt, Stmt, StmtForm, Suite};
 use py_expr::class::class_of;
@@ -23,6 +20,9 @@ use py_expr::expr::{expr_of, exprs_of};
 use py_expr::token::{Taken, mark, open, stands};
 use py_lexer::Token;
 use py_literals::place::Pos;
+use py_simple::names::loop_names_of;
+use py_simple::simple::{NESTINGS, word_stmt};
+use py_simple::words::{COLON, ELIF, ELSE, FOR, IF, IN, WHILE};
 use sqlite_items::Items;
 use std::alloc::{AllocError, Global};
 

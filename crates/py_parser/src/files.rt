@@ -14,15 +14,15 @@ use crate::blocks::single_compound_of;
 use crate::definitions::single_definition_of;
 use crate::lines::{Simples, line_of};
 use crate::suites::suite_of;
-use crate::words::{
-    NEWLINE, begins_compound, begins_definition, begins_file_simple, stands_compound,
-    stands_definition,
-};
 use phrases::many;
 use py_ast::{Stmt, Suite};
 use py_expr::class::class_of;
 use py_expr::token::{Taken, mark, stands};
 use py_lexer::Token;
+use py_simple::words::{
+    NEWLINE, begins_compound, begins_definition, begins_file_simple, stands_compound,
+    stands_definition,
+};
 use sqlite_items::Items;
 use std::alloc::Global;
 

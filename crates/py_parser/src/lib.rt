@@ -1,10 +1,8 @@
 //! Python files, read from their tokens (Language Reference, chapters 7 to 9).
 //!
-//! Each function of a module reads one production, as `py_ast` defines it (`specs/Statements.antt`, `specs/Files.antt`).
+//! Each function of a module reads one production, as `py_ast` defines it (`specs/Statements.antt`, `specs/Files.antt`). Simple
+//! statements and the parts of headers are read by `py_simple`.
 //!
-//! * `words`: which tokens begin what;
-//! * `imports`, `names`, `simple`: simple statements and their parts, parameters, bases, names of loops;
-//! * `literals`, `decorators`: decorators and their literal arguments;
 //! * `lines`: simple statements up to the end of a line;
 //! * `blocks`, `definitions`: statements with blocks;
 //! * `suites`: what stands behind the `:` of a block;
@@ -15,19 +13,13 @@
 #![tactic(auto)]
 
 mod blocks;
-mod decorators;
 mod definitions;
 mod files;
-mod imports;
 mod lines;
 mod lists;
-mod literals;
-mod names;
 mod parsing;
 mod reading;
-mod simple;
 mod suites;
-mod words;
 
 pub use parsing::{FileError, parse};
 pub use reading::{GrammarError, module_of_tokens};

@@ -12,20 +12,20 @@ ghost use Rattle.py_ast.specs.Statements.{optional, assigned, annotated, further
 ghost use Rattle.py_ast.specs.Files.{member_of, name_expr, ellipsis_of, member_simple, file_simple};
 ghost use Rattle.py_parser.specs.Lines.{simples, simples_first, simples_line};
 
-use crate::imports::{from_of, import_of};
-use crate::literals::texts_of;
-use crate::names::plain_name_of;
-use crate::simple::{annotated_of, assigned_of, begun_with, simple_of, word_token};
-use crate::words::{
-    ELLIPSIS, EQUAL, FROM, IMPORT, NAME, NEWLINE, SEMICOLON, begins_file_simple, begins_member,
-    begins_simple, stands_word,
-};
 use phrases::series;
 use py_ast::{Constant, Expr, Form, NameAt, Stmt, Tail, given_after};
 use py_expr::class::class_of;
 use py_expr::token::{Taken, make_leaf, mark, stands};
 use py_lexer::Token;
 use py_literals::place::Pos;
+use py_simple::imports::{from_of, import_of};
+use py_simple::literals::texts_of;
+use py_simple::names::plain_name_of;
+use py_simple::simple::{annotated_of, assigned_of, begun_with, simple_of, word_token};
+use py_simple::words::{
+    ELLIPSIS, EQUAL, FROM, IMPORT, NAME, NEWLINE, SEMICOLON, begins_file_simple, begins_member,
+    begins_simple, stands_word,
+};
 use sqlite_items::Items;
 use std::alloc::Global;
 

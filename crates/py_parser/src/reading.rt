@@ -1,15 +1,18 @@
 //! The module of a file's tokens, or the fault of the grammar.
 
 ghost use Rattle.std.specs.Prelude.{◌≡◌, List, [], ◌∷◌};
-ghost use Rattle.py_parser.specs.Faults.{SyntaxStop, EndsWith, StopPlace, ReadsTo, Refused, Judged};
+ghost use Rattle.phrases.specs.Verdict.{TooDeepAt};
+ghost use Rattle.py_ast.specs.Files.{file};
+ghost use Rattle.py_parser.specs.Faults.{SyntaxStop, EndsWith, StopPlace, ReadsTo, Refused, Judged, deepest};
 
 use crate::files::lines_of;
 use crate::lists::flattened;
+use later_forms::{told_before, told_on_line};
 use phrases::{Fault, Stop};
 use py_ast::Module;
-use py_forms::told_in_file;
 use py_lexer::{Form, Token};
 use py_literals::place::Pos;
+use rv_names::Memory;
 use sqlite_items::Items;
 use std::alloc::Global;
 
@@ -53,25 +56,41 @@ fn stop_place(rest: &[Token], end: Pos) -> Pos
     }
 }
 
-/// The fault where reading stops before `rest`: the form that is told there, if one is.
-fn refused(tokens: &[Token], rest: &[Token], end: Pos) -> GrammarError
+/// The fault where reading stops before `rest`: the form that is told there or further on the line, if one is.
+fn refused(alloc: Global, tokens: &[Token], rest: &[Token], end: Pos) -> GrammarError
     requires stops { SyntaxStop tokens.now rest.now }
     requires ends { EndsWith tokens.now end }
     ensures { Refused tokens.now result }
 {
     let count = tokens.len() - rest.len();
-    match told_in_file(&tokens[..count], rest) {
-        None => GrammarError::Syntax(stop_place(rest, end)),
-        Some(found) => GrammarError::Unsupported(found.form, tokens[found.place].at),
+    match told_on_line(alloc, tokens, count) {
+        Err(Memory) => GrammarError::Memory,
+        Ok(None) => GrammarError::Syntax(stop_place(rest, end)),
+        Ok(Some(found)) => GrammarError::Unsupported(found.form, tokens[found.place].at),
+    }
+}
+
+/// The fault where the first token of `rest` opens a nesting too many: that, or a form that begins before it.
+fn too_deep(alloc: Global, tokens: &[Token], rest: &[Token], end: Pos) -> GrammarError
+    requires deep { TooDeepAt file deepest tokens.now rest.now }
+    requires ends { EndsWith tokens.now end }
+    ensures { Refused tokens.now result }
+{
+    let count = tokens.len() - rest.len();
+    match told_before(alloc, tokens, count) {
+        Err(Memory) => GrammarError::Memory,
+        Ok(None) => GrammarError::TooDeep(stop_place(rest, end)),
+        Ok(Some(found)) => GrammarError::Unsupported(found.form, tokens[found.place].at),
     }
 }
 
 /// The module that the tokens spell, with 100 nestings at most in an expression and 100 blocks, one in another.
 ///
-/// Linear in the tokens. Errors: `TooDeep` at the token that opens one nesting or block too many; where reading stops, which
-/// is before the last token of the shortest part from the front with which no module begins, or at the end where each part
-/// begins one and the whole is none, `Unsupported` at the first token of the form that is told there, or else `Syntax` at that
-/// last token (Language Reference, chapter 10, cut to the subset).
+/// Linear in the tokens. Errors: where reading stops, which is before the last token of the shortest part from the front with
+/// which no module begins, or at the end where each part begins one and the whole is none, `Unsupported` at the first token of
+/// the form that is told there, or of one that begins before and is told further on the logical line, whichever begins first; else
+/// `Syntax` at that last token (Language Reference, chapter 10, cut to the subset). Where a token opens one nesting or block too
+/// many, `Unsupported` at the first token of a form that begins before it and is told behind it on the line, else `TooDeep` at it.
 pub fn module_of_tokens(alloc: Global, tokens: &[Token]) -> Result<Module, GrammarError>
     ensures { Judged tokens.now result }
 {
@@ -86,9 +105,7 @@ pub fn module_of_tokens(alloc: Global, tokens: &[Token]) -> Result<Module, Gramm
     match read_module(alloc, tokens) {
         Ok(module) => Ok(module),
         Err(Stop::Memory) => Err(GrammarError::Memory),
-        Err(Stop::Fault(Fault::Syntax, rest)) => Err(refused(tokens, rest, end)),
-        Err(Stop::Fault(Fault::TooDeep, rest)) => {
-            Err(GrammarError::TooDeep(stop_place(rest, end)))
-        }
+        Err(Stop::Fault(Fault::Syntax, rest)) => Err(refused(alloc, tokens, rest, end)),
+        Err(Stop::Fault(Fault::TooDeep, rest)) => Err(too_deep(alloc, tokens, rest, end)),
     }
 }

@@ -14,18 +14,18 @@ ghost use Rattle.py_parser.specs.Suites.{ReadsSuites, statement, statement_first
 
 use crate::blocks::single_compound_of;
 use crate::definitions::single_function_of;
-use crate::imports::prepended;
 use crate::lines::{Simples, line_of};
 use crate::lists::flattened;
-use crate::words::{
-    DEDENT, INDENT, NEWLINE, begins_compound, begins_function, begins_member, begins_simple,
-    stands_compound, stands_function,
-};
 use phrases::{Fault, Stop, many};
 use py_ast::{Stmt, Suite};
 use py_expr::class::class_of;
 use py_expr::token::{Taken, mark, stands};
 use py_lexer::Token;
+use py_simple::imports::prepended;
+use py_simple::words::{
+    DEDENT, INDENT, NEWLINE, begins_compound, begins_function, begins_member, begins_simple,
+    stands_compound, stands_function,
+};
 use sqlite_items::Items;
 use std::alloc::Global;
 

@@ -1,9 +1,10 @@
-use Rattle.std.proofs.Common.{refl}
-use Rattle.py_parser.proofs.Verdicts.{syntax_is, unsupported_is}
+use Rattle.py_parser.proofs.Verdicts.{syntax_is, told_at_stop}
 use Rattle.py_parser.proofs.reading.refused.Goals as goal
 
-pub returns-in-None : goal.returns-in-None
-returns-in-None c = syntax_is _ _ _ _ c.requires.stops c.in-None.ensures.value refl (c.stop_place.ensures _ c.requires.ends)
+pub returns-in-Ok-None : goal.returns-in-Ok-None
+returns-in-Ok-None c =
+    syntax_is c.args.tokens.now c.args.rest.now _ c.in-Ok-None.field-0 c.requires.stops (cc c.in-Ok-None.field-0-is) c.in-Ok-None.ensures.value (c.stop_place.ensures _ c.requires.ends)
 
-pub returns-in-Some : goal.returns-in-Some
-returns-in-Some c = unsupported_is _ _ _ _ _ c.requires.stops c.in-Some.ensures.value refl c.in-Some.ensures.within c.in-Some.ensures.behind
+pub returns-in-Ok-Some : goal.returns-in-Ok-Some
+returns-in-Ok-Some c =
+    told_at_stop c.args.tokens.now c.args.rest.now c.in-Ok-Some.field-0 c.in-Ok-Some.found _ c.requires.stops (cc c.in-Ok-Some.field-0-is) c.in-Ok-Some.ensures.value c.in-Ok-Some.ensures.inside

@@ -1,5 +1,0 @@
-use Rattle.front.proofs.OneReading.{one_reading}
-use Rattle.front.proofs.laws.one_reading.Goals as goal
-
-pub returns : goal.returns
-returns c = one_reading

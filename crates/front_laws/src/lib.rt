@@ -1,0 +1,6 @@
+//! What holds of each file: it is one item, or else it has one fault.
+#![tactic(auto)]
+
+mod laws;
+
+pub use laws::{one_fault, one_item, one_reading};

@@ -1,0 +1,4 @@
+pub mod Firsts
+pub mod Inside
+pub mod Never
+pub mod Plain

@@ -1,0 +1,11 @@
+use Rattle.std.proofs.Common.{◌∷◌, [], ◌∙◌, ap}
+use Rattle.phrases.specs.Sets.{has}
+use Rattle.py_ast.specs.Kinds.{class}
+use Rattle.py_ast.specs.Grammar.{comma_item, comma_items, goes_past}
+use Rattle.py_ast.specs.Literals.{literal_first, nested_literal}
+use Rattle.py_simple.proofs.literals.comma_literals_of.Goals as goal
+
+pub returns-clause-read : goal.returns-clause-read
+unfolding comma_items
+returns-clause-read g c =
+    c.series.ensures.read class (λ s. 77 ∷ []) (λ s. (comma_item literal_first (nested_literal c.args.room (tt {0}))).read) (λ s i. goes_past (λ e. tt {0}) i) (λ s k b h. h.2 ∙ ap (λ v. has (77 ∷ []) (class v)) h.1) (λ s ts r h. (h.0, h.1.0))
