@@ -3,9 +3,9 @@
 
 Each file is read by `dump trees`, and so is each function and class of its top level as a file of its own, since most whole files use
 something that the subset leaves out. Of an accepted text the whole tree is compared: shape, names, constants and places. Of a refused one
-the answer must be the first of what CPython's tree has and the subset hasn't, by name and place; a lexical refusal counts by its name
-(`tests/tokens.py` explains those), one as Syntax under its reason. Where a form stands inside one that begins earlier and that only a later
-token tells (`[a[1:2] for a in b]`), the inner one is answered, and counts under both names. Every refusal is counted. A difference fails.
+the answer must be the first of what CPython's tree has and the subset hasn't, by name and place (of two that begin at one place, the one that
+ends first); a lexical refusal counts by its name (`tests/tokens.py` explains those), one as Syntax under its reason. Every refusal is counted. A
+difference fails.
 
 Then each of these texts, and each file that CPython refuses, is put as `app.py` in one stream of `review check`: the answer must be `edit N` for an
 accepted text, and else one refusal, by the name and the place that were judged before.
@@ -31,8 +31,8 @@ LEXICAL = {
     "BadChar", "MixedIndent", "BadDedent", "OpenString", "OpenBracket", "BadEscape", "BadNumber", "WideNumber", "NotNormal", "FStringForm",
 }
 
-# forms that a token behind their first expression tells
-TOLD_LATER = {"comprehension", "set", "callee", "init call"}
+# forms that are told behind their first expression
+TOLD_LATER = ("comprehension", "set", "callee", "init call")
 
 
 def texts_of(path):
@@ -102,11 +102,12 @@ def explained(theirs, text, name, place):
     wanted = name[len("Unsupported(") : -1]
     if first is None or (place, wanted) not in forms:
         return name, f"{name} at {place} isn't what the tree has: {forms[:3]}"
-    before = [one for one in forms if one[0] < place]
-    later = [one for one in before if one[1] in TOLD_LATER and place < spans[one]]
-    if before != later or any(end < place for _, end, _ in syntax):
-        return name, f"{name} at {place}, but before it {(before + syntax)[:2]}"
-    return f"{name}, in {later[0][1]}" if later else name, None
+    if first[0] < place or any(end < place for _, end, _ in syntax):
+        return name, f"{name} at {place}, but before it {(forms + syntax)[:2]}"
+    beside = [one for one in forms if one[0] == place and one[1] in TOLD_LATER and spans[one] < spans[(place, wanted)]]
+    if wanted in TOLD_LATER and beside:
+        return name, f"{name} at {place}, but {beside} is told first"
+    return name, None
 
 
 def files():
