@@ -1,9 +1,15 @@
 pub mod Columns
 pub mod SourceLemmas
 pub mod WordLemmas
+pub mod CharLemmas
+pub mod OperatorLemmas
+pub mod SpellingLemmas
+pub mod KeywordLemmas
+pub mod Unchanged
 pub mod Sizes
 pub mod PieceSizes
 pub mod Places
+pub mod Blanks
 pub mod Runs
 pub mod OneAnswer
 pub mod Dedents

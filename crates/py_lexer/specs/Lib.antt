@@ -1,5 +1,6 @@
 pub mod Chars
 pub mod Operators
+pub mod Spellings
 pub mod Keywords
 pub mod Form
 pub mod Faults

@@ -1,5 +1,5 @@
 -- Operators and delimiters (Language Reference, 2.5 and 2.6), by longest match.
-use Rattle.std.specs.Prelude.{ℕ, List, [], ◌∷◌, Option, Some, None, ◌&&◌, ◌==◌, if◌then◌else◌}
+use Rattle.std.specs.Prelude.{ℕ, Bool, List, [], ◌∷◌, Option, Some, None, ◌&&◌, ◌||◌, ◌==◌, if◌then◌else◌}
 use Rattle.py_lexer.specs.declared.operators.Operator.{Operator}
 use Rattle.py_lexer.specs.declared.token.Kind.{Kind}
 use Rattle.py_lexer.specs.declared.token.Kind.TheVariants as kinds
@@ -83,6 +83,10 @@ three_signs a b c =
     if c == 61 then doubled_before_equal a else (
     if (a == 46) && (c == 46) then Some kinds.Ellipsis else None))
     else None
+
+-- an operator of several characters may have this one second
+abbrev pub may_go_on : ℕ → Bool
+may_go_on c = (c == 61) || ((c == 42) || ((c == 47) || ((c == 60) || ((c == 62) || (c == 46)))))
 
 -- the operator of n characters, or else another
 abbrev pub operator_or : ℕ → Option Kind → Option Operator → Option Operator

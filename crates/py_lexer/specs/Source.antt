@@ -1,5 +1,5 @@
 -- A text as its lexical analysis reads it (Language Reference, 2.1.2 and 2.1.4).
-use Rattle.std.specs.Prelude.{ℕ, Bool, true, false, List, [], ◌∷◌, ◌&&◌, ◌==◌, if◌then◌else◌}
+use Rattle.std.specs.Prelude.{ℕ, Bool, true, false, List, [], ◌∷◌, ◌&&◌, ◌==◌, not, nat_lt, if◌then◌else◌}
 
 -- each line end, CR LF, CR or LF, as one LF: an LF behind a CR belongs to it
 abbrev pub line_ends : Bool → List ℕ → List ℕ
@@ -15,3 +15,7 @@ without_mark (c ∷ cs) = if c == 0xFEFF then cs else c ∷ cs
 
 abbrev pub source_chars : List ℕ → List ℕ
 source_chars cs = line_ends false (without_mark cs)
+
+-- a byte of ASCII other than CR is read as it is, wherever it stands
+abbrev pub is_plain : ℕ → Bool
+is_plain c = nat_lt c 128 && not (c == 13)

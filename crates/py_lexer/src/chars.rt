@@ -2,7 +2,7 @@
 
 ghost use Rattle.std.specs.Prelude.{◌≡◌, ◌≤◌, length};
 ghost use Rattle.std.specs.List.{prefix_len};
-ghost use Rattle.rv_names.specs.Identifier.{is_identifier_continue};
+ghost use Rattle.rv_names.specs.Identifier.{is_identifier_start, is_identifier_continue};
 ghost use Rattle.py_lexer.specs.Chars.{class_of, is_white, is_in_line, is_digit};
 
 use rv_names::{is_identifier_continue, is_identifier_start};
@@ -30,6 +30,32 @@ pub enum Class {
     Sign,
 }
 
+/// Whether a name may begin with the character. One of ASCII needs no table.
+#[tactic(auto, using(crate::proofs::CharLemmas::start_ascii))]
+fn may_start_name(c: char) -> bool
+    ensures { result ≡ is_identifier_start c }
+{
+    if (c as u32) < 128 {
+        c.is_ascii_alphabetic() | (c == '_')
+    } else {
+        is_identifier_start(c)
+    }
+}
+
+/// Whether a name may go on with the character. One of ASCII needs no table, and most are small letters.
+#[tactic(auto, using(crate::proofs::CharLemmas::continue_ascii))]
+pub fn may_continue_name(c: char) -> bool
+    ensures { result ≡ is_identifier_continue c }
+{
+    if matches!(c, 'a'..='z') {
+        true
+    } else if (c as u32) < 128 {
+        c.is_ascii_alphanumeric() | (c == '_')
+    } else {
+        is_identifier_continue(c)
+    }
+}
+
 /// What the character may begin.
 pub fn class_of(c: char) -> Class
     ensures { result ≡ class_of c }
@@ -43,7 +69,7 @@ pub fn class_of(c: char) -> Class
         '0'..='9' => Class::Digit,
         '.' => Class::Dot,
         _ => {
-            if is_identifier_start(c) {
+            if may_start_name(c) {
                 Class::Letter
             } else {
                 Class::Sign
@@ -87,8 +113,5 @@ pub fn name_len(chars: &[char]) -> usize
     ensures value { result ≡ prefix_len is_identifier_continue chars.now }
     ensures within { result ≤ length chars.now }
 {
-    chars
-        .iter()
-        .take_while(|c| is_identifier_continue(**c))
-        .count()
+    chars.iter().take_while(|c| may_continue_name(**c)).count()
 }

@@ -6,8 +6,9 @@ ghost use Rattle.py_lexer.specs.Front.{front_of};
 ghost use Rattle.py_lexer.specs.Formatted.{text_of, text_or_field, literal, field_end};
 
 use crate::piece::{Lexeme, Piece};
+use crate::spellings::Spellings;
 use crate::state::{Mode, State};
-use crate::strings::{quotes_len, value_of};
+use crate::strings::quotes_len;
 use crate::token::{Kind, LexKind, Value};
 use py_literals::escape::{EscapeError, decode};
 use py_literals::formatted::text_len;
@@ -15,14 +16,19 @@ use py_literals::text::StringKind;
 use rv_names::Memory;
 use std::alloc::Global;
 
-fn text_of(alloc: Global, kind: &StringKind, text: &[char]) -> Result<Lexeme, Memory>
+fn text_of(
+    alloc: Global,
+    spellings: &mut Spellings,
+    kind: &StringKind,
+    text: &[char],
+) -> Result<Lexeme, Memory>
     ensures { IfOk result (λ lexeme. lexeme ≡ text_of kind.now text.now) }
 {
     match decode(alloc, kind, text) {
         Err(EscapeError::Memory) => Err(Memory),
         Err(EscapeError::Bad(ahead)) => Ok(Lexeme::Refused(LexKind::BadEscape, ahead)),
         Ok(value) => {
-            let value = value_of(alloc, &value)?;
+            let value = spellings.text(alloc, &value)?;
             Ok(Lexeme::Spelled(text.len(), Kind::FStringText, Value::Text(value)))
         }
     }
@@ -30,6 +36,7 @@ fn text_of(alloc: Global, kind: &StringKind, text: &[char]) -> Result<Lexeme, Me
 
 fn text_or_field(
     alloc: Global,
+    spellings: &mut Spellings,
     state: &mut State,
     kind: StringKind,
     beyond: usize,
@@ -43,13 +50,14 @@ fn text_or_field(
         return Ok(Piece::Found(1, Kind::FieldOpen, Value::Nothing));
     }
     let (text, _) = body.split_at(len);
-    Ok(Piece::from(text_of(alloc, &kind, text)?))
+    Ok(Piece::from(text_of(alloc, spellings, &kind, text)?))
 }
 
 /// What stands in a formatted string of this kind outside of its fields: a text, the `{` of a field, or the closing
 /// quotes. Behind its body stand so many characters (Language Reference, 2.4.3).
 pub fn literal(
     alloc: Global,
+    spellings: &mut Spellings,
     state: &mut State,
     kind: StringKind,
     beyond: usize,
@@ -63,7 +71,7 @@ pub fn literal(
             state.mode = Mode::Inside;
             Ok(Piece::Found(quotes_len(&kind), Kind::FStringEnd, Value::Nothing))
         }
-        _ => text_or_field(alloc, state, kind, beyond, body),
+        _ => text_or_field(alloc, spellings, state, kind, beyond, body),
     }
 }
 

@@ -9,6 +9,7 @@ ghost use Rattle.py_lexer.specs.Inside.{line_end, join, bracketed, operator, num
 use crate::chars::{Class, class_of, is_digit, line_len, white_len};
 use crate::operators::longest_operator;
 use crate::piece::Piece;
+use crate::spellings::Spellings;
 use crate::state::{Mode, State};
 use crate::strings::{string, string_or_word};
 use crate::token::{Kind, LexKind, Value};
@@ -103,6 +104,7 @@ fn number_or_operator(
 /// What stands at the front inside a logical line, by its first character.
 pub fn inside(
     alloc: Global,
+    spellings: &mut Spellings,
     at: Pos,
     state: &mut State,
     first: char,
@@ -117,10 +119,10 @@ pub fn inside(
         Class::LineEnd => Ok(line_end(state)),
         Class::Comment => Ok(Piece::Passed(1 + line_len(rest))),
         Class::Backslash => Ok(join(state, rest)),
-        Class::Quote => string(alloc, state, chars),
+        Class::Quote => string(alloc, spellings, state, chars),
         Class::Digit => Ok(Piece::from(number_front(chars))),
         Class::Dot => number_or_operator(at, state, first, rest, chars),
-        Class::Letter => string_or_word(alloc, state, first, rest, chars),
+        Class::Letter => string_or_word(alloc, spellings, state, first, rest, chars),
         Class::Sign => operator(at, state, first, rest, chars),
     }
 }

@@ -1,22 +1,36 @@
 //! The tokens of a text, piece by piece.
 
-ghost use Rattle.std.specs.Prelude.{◌≡◌, ◌∷◌, ◌≤◌, ◌<◌, ◌+◌, ◌^◌, length, take, drop, chars, IfOk, IfErr};
+ghost use Rattle.std.specs.Prelude.{◌≡◌, ◌∷◌, ◌≤◌, ◌<◌, ◌+◌, ◌^◌, length, take, drop, chars, IfOk, IfErr, IfSome, []};
+ghost use Rattle.std.specs.List.{list_any};
 ghost use Rattle.py_literals.specs.Place.{after};
-ghost use Rattle.py_lexer.specs.Front.{front_of};
+ghost use Rattle.py_literals.specs.declared.place.Pos.{Pos};
+ghost use Rattle.py_lexer.specs.Chars.{is_line_end, is_white};
+ghost use Rattle.py_lexer.specs.Front.{front_of, Passed};
+ghost use Rattle.py_lexer.specs.Words.{next_is};
 ghost use Rattle.py_lexer.specs.Pieces.{finish, piece};
 ghost use Rattle.py_lexer.specs.Runs.{Tokens, first_place, start, HasTokens, IsFaultOf, IsRefusedBy};
 
+use crate::chars::is_white;
 use crate::fstring::{field_end, literal};
 use crate::inside::inside;
 use crate::margin::{indentation, margin};
 use crate::piece::Piece;
+use crate::scratch::Scratch;
 use crate::source::source_chars;
+use crate::spellings::Spellings;
 use crate::stack::{Blocks, Brackets};
 use crate::state::{Mode, State};
 use crate::token::{Kind, LexError, LexKind, Token, Value};
 use py_literals::place::{Pos, after};
 use rv_names::Memory;
 use std::alloc::Global;
+use std::mem;
+
+/// About how many characters a token has, with the white space and the comments before it.
+const TOKEN_LEN: usize = 8;
+
+/// From how many characters on a piece is long.
+const LONG_PIECE: usize = 16;
 
 /// What stands at the end: an open bracket, the end of the last line, or that of a block.
 fn finish(state: &mut State) -> Piece
@@ -36,7 +50,13 @@ fn finish(state: &mut State) -> Piece
 }
 
 /// What stands at the front, by what is open there.
-fn piece(alloc: Global, at: Pos, state: &mut State, chars: &[char]) -> Result<Piece, Memory>
+fn piece(
+    alloc: Global,
+    spellings: &mut Spellings,
+    at: Pos,
+    state: &mut State,
+    chars: &[char],
+) -> Result<Piece, Memory>
     requires { length chars.now < 2 ^ 60 }
     ensures { IfOk result (λ p. front_of p state.new ≡ piece at state.old chars.now) }
 {
@@ -45,14 +65,16 @@ fn piece(alloc: Global, at: Pos, state: &mut State, chars: &[char]) -> Result<Pi
     };
     match state.mode {
         Mode::LineStart => Ok(margin(state, chars)),
-        Mode::Indented(column) => indentation(alloc, at, state, column, *first, rest, chars),
-        Mode::Inside => inside(alloc, at, state, *first, rest, chars),
-        Mode::Literal(kind, beyond) => literal(alloc, state, kind, beyond, chars),
+        Mode::Indented(column) => indentation(
+            alloc, spellings, at, state, column, *first, rest, chars,
+        ),
+        Mode::Inside => inside(alloc, spellings, at, state, *first, rest, chars),
+        Mode::Literal(kind, beyond) => literal(alloc, spellings, state, kind, beyond, chars),
         Mode::Field(kind, beyond) => {
             if *first == '}' {
                 Ok(field_end(state, kind, beyond))
             } else {
-                inside(alloc, at, state, *first, rest, chars)
+                inside(alloc, spellings, at, state, *first, rest, chars)
             }
         }
     }
@@ -66,12 +88,76 @@ fn parted(chars: &[char], len: usize) -> (&[char], &[char])
     chars.split_at(len.min(chars.len()))
 }
 
-fn tokens_of(alloc: Global, text: &[char]) -> Result<Vec<Token>, LexError>
+/// What follows one blank between two tokens, where such a blank stands at the front. Most pieces without a token are that.
+#[tactic(auto, using(crate::proofs::Blanks::blank_passed))]
+fn behind_blank<'a>(state: &State, chars: &'a [char]) -> Option<&'a [char]>
+    ensures rest { IfSome result (λ rest. rest.now ≡ drop 1 chars.now) }
+    ensures blank { IfSome result (λ rest. take 1 chars.now ≡ 32 ∷ []) }
+    ensures passed { IfSome result (λ rest. (at : Pos) → Passed 1 state.now ≡ piece at state.now chars.now) }
+{
+    if state.mode != Mode::Inside {
+        return None;
+    }
+    let [' ', rest @ ..] = chars else {
+        return None;
+    };
+    if is_white_next(rest) {
+        None
+    } else {
+        Some(rest)
+    }
+}
+
+/// Whether one of the characters ends a line. Of many it looks at each, which is faster than to stop at the first.
+fn has_line_end(chars: &[char]) -> bool
+    ensures { result ≡ list_any is_line_end chars.now }
+{
+    if chars.len() < LONG_PIECE {
+        return chars.iter().any(|c| *c == '\n');
+    }
+    let mut ends = false;
+    for c in chars {
+        ends |= *c == '\n';
+    }
+    ends
+}
+
+/// The place behind these characters, most of which stand in one line.
+#[tactic(auto, using(crate::proofs::Places::after_in_line))]
+fn moved(at: Pos, chars: &[char]) -> Pos
+    requires lines { at.line + length chars.now < 2 ^ 32 }
+    requires columns { at.col + length chars.now < 2 ^ 32 }
+    ensures { result ≡ after at chars.now }
+{
+    if has_line_end(chars) {
+        after(at, chars)
+    } else {
+        Pos {
+            line: at.line,
+            col: at.col + chars.len() as u32,
+        }
+    }
+}
+
+fn is_white_next(chars: &[char]) -> bool
+    ensures { result ≡ next_is is_white chars.now }
+{
+    match chars {
+        [] => false,
+        [c, ..] => is_white(*c),
+    }
+}
+
+fn tokens_of(
+    alloc: Global,
+    spellings: &mut Spellings,
+    text: &[char],
+) -> Result<Vec<Token>, LexError>
     requires { length text.now < 2 ^ 31 }
     ensures tokens { IfOk result (λ v. Tokens first_place start text.now v.items) }
     ensures fault { IfErr result (IsFaultOf text.now) }
 {
-    let mut tokens = Vec::new(alloc);
+    let mut tokens = Vec::with_capacity(alloc, text.len() / TOKEN_LEN)?;
     let mut state = State {
         mode: Mode::LineStart,
         brackets: Brackets::new(alloc),
@@ -81,16 +167,21 @@ fn tokens_of(alloc: Global, text: &[char]) -> Result<Vec<Token>, LexError>
     let mut at = Pos { line: 1, col: 1 };
     let mut rest = text;
     'pieces: loop {
-        match piece(alloc, at, &mut state, rest)? {
+        if let Some(behind) = behind_blank(&state, rest) {
+            at.col += 1;
+            rest = behind;
+            continue 'pieces;
+        }
+        match piece(alloc, spellings, at, &mut state, rest)? {
             Piece::Found(len, kind, value) => {
                 tokens.push(Token { kind, value, at })?;
                 let (front, behind) = parted(rest, len);
-                at = after(at, front);
+                at = moved(at, front);
                 rest = behind;
             }
             Piece::Passed(len) => {
                 let (front, behind) = parted(rest, len);
-                at = after(at, front);
+                at = moved(at, front);
                 rest = behind;
             }
             Piece::Bad(kind, ahead) => {
@@ -121,6 +212,21 @@ pub fn lex(alloc: Global, text: &str) -> Result<Vec<Token>, LexError>
     ensures tokens { IfOk result (λ v. HasTokens (chars text.now) v.items) }
     ensures fault { IfErr result (IsRefusedBy (chars text.now)) }
 {
-    let chars = source_chars(alloc, text)?;
-    tokens_of(alloc, &chars)
+    let mut scratch = Scratch::new(alloc);
+    lex_with(alloc, &mut scratch, text)
+}
+
+/// As `lex`, with what was kept of the texts before. So most of the memory for a text is taken once, and a name that
+/// was read lately costs a counter.
+pub fn lex_with(alloc: Global, scratch: &mut Scratch, text: &str) -> Result<Vec<Token>, LexError>
+    requires { length text.now < 2 ^ 31 }
+    ensures tokens { IfOk result (λ v. HasTokens (chars text.now) v.items) }
+    ensures fault { IfErr result (IsRefusedBy (chars text.now)) }
+{
+    let room = mem::replace(&mut scratch.chars, Vec::new(alloc));
+    let chars = source_chars(alloc, room, text)?;
+    scratch.spellings.begin(chars.len())?;
+    let tokens = tokens_of(alloc, &mut scratch.spellings, &chars);
+    scratch.chars = chars;
+    tokens
 }

@@ -1,6 +1,7 @@
 //! The tokens of a Python text (Language Reference, chapter 2), or its one lexical fault.
 //!
-//! * `lexing`: `lex`, the tokens of a text;
+//! * `lexing`: `lex`, the tokens of a text, and `lex_with`, which reads many;
+//! * `scratch`: a `Scratch`, what is kept from one text to the next;
 //! * `laws`: what holds of each text: it has one answer, and its tokens lie in it in order, each the longest possible;
 //! * `token`: a `Token`, its `Kind` and its `Value`, and the `LexKind`s of faults;
 //! * `form`: a `Form`, the name of a form that isn't supported;
@@ -10,6 +11,7 @@
 //! * `margin`: blank lines and indentation;
 //! * `inside`: what stands inside a logical line, by its first character;
 //! * `words`, `keywords`, `operators`, `strings`, `fstring`: that, by class;
+//! * `spellings`: what words and texts are spelled as, and the names that were spelled so before;
 //! * `chars`: the classes of characters.
 #![tactic(auto)]
 
@@ -23,7 +25,9 @@ mod lexing;
 mod margin;
 mod operators;
 mod piece;
+mod scratch;
 mod source;
+mod spellings;
 mod stack;
 mod state;
 mod strings;
@@ -34,5 +38,6 @@ mod words;
 
 pub use form::Form;
 pub use laws::{layout, longest, one_answer};
-pub use lexing::lex;
+pub use lexing::{lex, lex_with};
+pub use scratch::Scratch;
 pub use token::{Kind, LexError, LexKind, Token, Value};

@@ -10,6 +10,7 @@ ghost use Rattle.py_lexer.specs.Margin.{gap_len, is_form_feed, feeds_len, indent
 use crate::chars::{is_white, line_len, white_len};
 use crate::inside::inside;
 use crate::piece::Piece;
+use crate::spellings::Spellings;
 use crate::stack::Blocks;
 use crate::state::{Mode, State, White};
 use crate::token::{Kind, LexKind, Value};
@@ -151,6 +152,7 @@ fn is_open(blocks: &Blocks, column: usize) -> bool
 /// (Language Reference, 2.1.8).
 pub fn indentation(
     alloc: Global,
+    spellings: &mut Spellings,
     at: Pos,
     state: &mut State,
     column: usize,
@@ -173,12 +175,13 @@ pub fn indentation(
         let _closed = state.blocks.close();
         Ok(Piece::Found(0, Kind::Dedent, Value::Nothing))
     } else {
-        bad_dedent(alloc, at, state, first, rest, chars)
+        bad_dedent(alloc, spellings, at, state, first, rest, chars)
     }
 }
 
 fn bad_dedent(
     alloc: Global,
+    spellings: &mut Spellings,
     at: Pos,
     state: &mut State,
     first: char,
@@ -188,7 +191,7 @@ fn bad_dedent(
     requires { chars.now ≡ first ∷ rest.now }
     ensures { IfOk result (λ p. front_of p state.new ≡ bad_dedent (inside at state.old first rest.now)) }
 {
-    let piece = inside(alloc, at, state, first, rest, chars)?;
+    let piece = inside(alloc, spellings, at, state, first, rest, chars)?;
     Ok(dedent_fault(piece))
 }
 

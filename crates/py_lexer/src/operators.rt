@@ -1,7 +1,7 @@
 //! Operators and delimiters.
 
 ghost use Rattle.std.specs.Prelude.{◌≡◌};
-ghost use Rattle.py_lexer.specs.Operators.{sign, before_equal, doubled, doubled_before_equal, two_signs, three_signs, operator_or, longest_operator};
+ghost use Rattle.py_lexer.specs.Operators.{sign, before_equal, doubled, doubled_before_equal, two_signs, three_signs, operator_or, longest_operator, may_go_on};
 
 use crate::token::Kind;
 
@@ -130,7 +130,16 @@ fn operator_or(len: usize, kind: Option<Kind>, other: Option<Operator>) -> Optio
     }
 }
 
+/// Whether an operator of several characters may go on with this one.
+fn may_go_on(second: char) -> bool
+    ensures { result ≡ may_go_on second }
+{
+    matches!(second, '=' | '*' | '/' | '<' | '>' | '.')
+}
+
 /// The longest operator or delimiter at the front (Language Reference, 2.5 and 2.6).
+///
+/// Most are told from longer ones by the character behind them.
 pub fn longest_operator(chars: &[char]) -> Option<Operator>
     ensures { result ≡ longest_operator chars.now }
 {
@@ -139,8 +148,16 @@ pub fn longest_operator(chars: &[char]) -> Option<Operator>
         [a] => operator_or(1, sign(*a), None),
         [a, b] => operator_or(2, two_signs(*a, *b), operator_or(1, sign(*a), None)),
         [a, b, c, ..] => {
-            let shorter = operator_or(2, two_signs(*a, *b), operator_or(1, sign(*a), None));
-            operator_or(3, three_signs(*a, *b, *c), shorter)
+            let one = operator_or(1, sign(*a), None);
+            if may_go_on(*b) {
+                operator_or(
+                    3,
+                    three_signs(*a, *b, *c),
+                    operator_or(2, two_signs(*a, *b), one),
+                )
+            } else {
+                one
+            }
         }
     }
 }

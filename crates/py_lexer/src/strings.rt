@@ -1,18 +1,21 @@
 //! Strings.
 
-ghost use Rattle.std.specs.Prelude.{◌≡◌, ◌≤◌, ◌<◌, ◌+◌, ◌∷◌, ◌^◌, length, drop, IfOk, IsTrue, encode_utf8_all};
+ghost use Rattle.std.specs.Prelude.{◌≡◌, ◌==◌, ◌≤◌, ◌<◌, ◌+◌, ◌∷◌, ◌^◌, length, drop, Ok, IfOk, IsTrue};
+ghost use Rattle.std.specs.List.{list_any};
+ghost use Rattle.py_literals.specs.Escape.{decoded};
 ghost use Rattle.rv_names.specs.Identifier.{is_identifier_start};
 ghost use Rattle.py_lexer.specs.Front.{front_of};
 ghost use Rattle.py_lexer.specs.Strings.{quotes_len, quotes_at, unformatted, formatted, string_of, string, string_or_word};
 
 use crate::piece::{Lexeme, Piece};
+use crate::spellings::Spellings;
 use crate::state::{Mode, State};
 use crate::token::{Kind, LexKind, Value};
-use crate::words::{text_of, word};
+use crate::words::word;
 use py_literals::escape::{EscapeError, decode};
 use py_literals::formatted::has_form;
 use py_literals::text::{Opening, StringKind, string_body, string_opening};
-use rv_names::{Memory, Text};
+use rv_names::Memory;
 use std::alloc::Global;
 
 /// How many quotes open such a string, and close it.
@@ -30,18 +33,34 @@ fn quotes_at(opening: &Opening) -> usize
     opening.len.saturating_sub(quotes_len(&opening.kind))
 }
 
-/// The characters as a text.
-pub(crate) fn value_of(alloc: Global, chars: &[char]) -> Result<Text, Memory>
-    ensures { IfOk result (λ text. text ≡ encode_utf8_all chars.now) }
+fn has_backslash(body: &[char]) -> bool
+    ensures { result ≡ list_any (λ c. c == 92) body.now }
 {
-    Text::from_string(text_of(alloc, chars)?)
+    body.iter().any(|c| *c == '\\')
 }
 
-fn unformatted(alloc: Global, opening: &Opening, body: &[char]) -> Result<Lexeme, Memory>
+/// Whether the body is its own value, as most are.
+#[tactic(auto, using(crate::proofs::Unchanged::own_value))]
+fn is_plain(kind: &StringKind, body: &[char]) -> bool
+    ensures { IsTrue result → decoded kind.now body.now ≡ Ok body.now }
+{
+    !kind.formatted && !has_backslash(body)
+}
+
+fn unformatted(
+    alloc: Global,
+    spellings: &mut Spellings,
+    opening: &Opening,
+    body: &[char],
+) -> Result<Lexeme, Memory>
     requires { opening.now.len + length body.now < 2 ^ 63 }
     ensures { IfOk result (λ lexeme. lexeme ≡ unformatted opening.now body.now) }
 {
     let len = opening.len + body.len() + quotes_len(&opening.kind);
+    if !opening.kind.bytes && is_plain(&opening.kind, body) {
+        let text = spellings.text(alloc, body)?;
+        return Ok(Lexeme::Spelled(len, Kind::Text, Value::Text(text)));
+    }
     match decode(alloc, &opening.kind, body) {
         Err(EscapeError::Memory) => Err(Memory),
         Err(EscapeError::Bad(offset)) => {
@@ -50,7 +69,7 @@ fn unformatted(alloc: Global, opening: &Opening, body: &[char]) -> Result<Lexeme
         }
         Ok(_) if opening.kind.bytes => Ok(Lexeme::Spelled(len, Kind::Bytes, Value::Nothing)),
         Ok(value) => {
-            let text = value_of(alloc, &value)?;
+            let text = spellings.text(alloc, &value)?;
             Ok(Lexeme::Spelled(len, Kind::Text, Value::Text(text)))
         }
     }
@@ -69,6 +88,7 @@ fn formatted(state: &mut State, opening: &Opening, body: &[char], beyond: usize)
 
 fn string_of(
     alloc: Global,
+    spellings: &mut Spellings,
     state: &mut State,
     opening: &Opening,
     chars: &[char],
@@ -84,25 +104,31 @@ fn string_of(
             if opening.kind.formatted {
                 Ok(formatted(state, opening, body, behind.len()))
             } else {
-                Ok(Piece::from(unformatted(alloc, opening, body)?))
+                Ok(Piece::from(unformatted(alloc, spellings, opening, body)?))
             }
         }
     }
 }
 
 /// The string that begins with a quote here (Language Reference, 2.4.1).
-pub fn string(alloc: Global, state: &mut State, chars: &[char]) -> Result<Piece, Memory>
+pub fn string(
+    alloc: Global,
+    spellings: &mut Spellings,
+    state: &mut State,
+    chars: &[char],
+) -> Result<Piece, Memory>
     ensures { IfOk result (λ p. front_of p state.new ≡ string state.old chars.now) }
 {
     match string_opening(chars) {
         None => Ok(Piece::Bad(LexKind::BadChar, 0)),
-        Some(opening) => string_of(alloc, state, &opening, chars),
+        Some(opening) => string_of(alloc, spellings, state, &opening, chars),
     }
 }
 
 /// The string with a prefix, or else the keyword or name, that begins with a letter here (Language Reference, 2.3, 2.4.1).
 pub fn string_or_word(
     alloc: Global,
+    spellings: &mut Spellings,
     state: &mut State,
     first: char,
     rest: &[char],
@@ -113,7 +139,7 @@ pub fn string_or_word(
     ensures { IfOk result (λ p. front_of p state.new ≡ string_or_word state.old chars.now) }
 {
     match string_opening(chars) {
-        None => Ok(Piece::from(word(alloc, first, rest, chars)?)),
-        Some(opening) => string_of(alloc, state, &opening, chars),
+        None => Ok(Piece::from(word(alloc, spellings, first, rest, chars)?)),
+        Some(opening) => string_of(alloc, spellings, state, &opening, chars),
     }
 }

@@ -21,19 +21,23 @@ impl fmt::Display for Shown<'_> {
     }
 }
 
-/// The tokens of a short text.
-fn tokens_text(alloc: Global, text: &str) -> Result<String, LexError> {
-    if text.len() > 1000 {
-        return Err(LexError::Memory);
-    }
+fn written(alloc: Global, tokens: &[Token]) -> Result<String, LexError> {
     let mut out = String::new(alloc);
-    for token in &lex(alloc, text)? {
+    for token in tokens {
         if !out.is_empty() {
             out.push_str("; ")?;
         }
         out.push_str(format!(in alloc; "{}", Shown(token))?.as_str())?;
     }
     Ok(out)
+}
+
+/// The tokens of a short text.
+fn tokens_text(alloc: Global, text: &str) -> Result<String, LexError> {
+    if text.len() > 1000 {
+        return Err(LexError::Memory);
+    }
+    written(alloc, &lex(alloc, text)?)
 }
 
 const TOKENS: [(&str, &str); 62] = [
@@ -351,6 +355,45 @@ fn texts_with_faults(rt: HostRuntime) {
             Err(LexError::Fault { kind: found, at }) => {
                 let same = found == kind && at.line == line && at.col == col;
                 assert!(rt; same, "{found} at {}:{} in {text:?}", at.line, at.col);
+            }
+        }
+    }
+}
+
+/// The tokens of a short text, after others.
+fn tokens_after(alloc: Global, scratch: &mut Scratch, text: &str) -> Result<String, LexError> {
+    if text.len() > 1000 {
+        return Err(LexError::Memory);
+    }
+    written(alloc, &lex_with(alloc, scratch, text)?)
+}
+
+#[test]
+fn texts_in_turn(rt: HostRuntime) {
+    let mut scratch = Scratch::new(rt.alloc());
+    let texts = [
+        (
+            "ab = cd",
+            "1:1 Name ab; 1:4 Equal; 1:6 Name cd; 1:8 Newline",
+        ),
+        ("ab $ cd", "1:4 BadChar"),
+        (
+            "x.cd\r\nab",
+            "1:1 Name x; 1:2 Dot; 1:3 Name cd; 1:5 Newline; 2:1 Name ab; 2:3 Newline",
+        ),
+        ("", ""),
+        ("ab", "1:1 Name ab; 1:3 Newline"),
+    ];
+    for (text, wanted) in texts {
+        match tokens_after(rt.alloc(), &mut scratch, text) {
+            Ok(tokens) => assert_eq!(rt; tokens.as_str(), wanted, "at {text:?}"),
+            Err(LexError::Memory) => assert!(rt; false, "no memory"),
+            Err(LexError::Fault { kind, at }) => {
+                let found = format!(in rt.alloc(); "{}:{} {kind:?}", at.line, at.col);
+                match found {
+                    Ok(found) => assert_eq!(rt; found.as_str(), wanted, "at {text:?}"),
+                    Err(_) => assert!(rt; false, "no memory"),
+                }
             }
         }
     }

@@ -1,60 +1,91 @@
 //! Keywords, names and numbers.
 
-ghost use Rattle.std.specs.Prelude.{◌≡◌, ◌∷◌, ◌≤◌, ◌<◌, length, take, IfOk, IsTrue, Some, None, encode_utf8_all, string_bytes};
+ghost use Rattle.std.specs.Prelude.{◌≡◌, ◌∷◌, ◌≤◌, ◌<◌, length, take, IfOk, IsTrue, Some, None, encode_utf8_all, IfSome};
 ghost use Rattle.rv_names.specs.Identifier.{is_identifier_start, is_identifier_continue, is_spelled_as_identifier};
 ghost use Rattle.py_lexer.specs.Words.{next_is, IsNarrow, word_by, word_of, word_len, word, number_of, number_by, number};
 
-use crate::chars::name_len;
+use crate::chars::{may_continue_name, name_len};
 use crate::keywords::keyword_of;
 use crate::piece::Lexeme;
+use crate::spellings::{Names, Spellings, is_spelled, spell};
 use crate::token::{Kind, LexKind, Value};
 use py_literals::number::{NumberValue, number};
-use rv_names::{Memory, Name, NameFault, is_identifier_continue};
+use rv_names::{Memory, Name, NameFault};
 use std::alloc::Global;
 
-/// The characters in UTF-8.
-pub(crate) fn text_of(alloc: Global, chars: &[char]) -> Result<String, Memory>
-    ensures { IfOk result (λ s. string_bytes s ≡ encode_utf8_all chars.now) }
+/// The name, if it is the last one at the place: it costs a counter.
+fn kept_name(names: &Names, place: usize, text: &[char]) -> Result<Option<Lexeme>, Memory>
+    ensures { IfOk result (λ found. IfSome found (λ lexeme. lexeme ≡ word_by (length text.now) text.now None)) }
 {
-    let mut text = String::new(alloc);
-    for c in chars {
-        text.push(*c)?;
+    let Some(name) = names.last(place) else {
+        return Ok(None);
+    };
+    if !is_spelled(text, name.as_str()) {
+        return Ok(None);
     }
-    Ok(text)
+    let name = name.copy()?;
+    Ok(Some(Lexeme::Spelled(text.len(), Kind::Name, Value::Name(name))))
 }
 
-fn name_of(alloc: Global, text: &[char], spelled: &str) -> Result<Lexeme, Memory>
+fn new_name(
+    alloc: Global,
+    names: &mut Names,
+    place: usize,
+    text: &[char],
+    spelled: &str,
+) -> Result<Lexeme, Memory>
     requires identifier { IsTrue (is_spelled_as_identifier text.now) }
     requires same { spelled.now ≡ encode_utf8_all text.now }
     ensures { IfOk result (λ lexeme. lexeme ≡ word_by (length text.now) text.now None) }
 {
     match Name::read(alloc, spelled) {
-        Ok(name) => Ok(Lexeme::Spelled(text.len(), Kind::Name, Value::Name(name))),
+        Ok(name) => {
+            names.keep(place, name.copy()?);
+            Ok(Lexeme::Spelled(text.len(), Kind::Name, Value::Name(name)))
+        }
         Err(NameFault::NotIdent) => Ok(Lexeme::Refused(LexKind::NotNormal, 0)),
         Err(NameFault::Memory) => Err(Memory),
     }
 }
 
-fn word_of(alloc: Global, text: &[char]) -> Result<Lexeme, Memory>
+fn name_of(alloc: Global, spellings: &mut Spellings, text: &[char]) -> Result<Lexeme, Memory>
+    requires { IsTrue (is_spelled_as_identifier text.now) }
+    ensures { IfOk result (λ lexeme. lexeme ≡ word_by (length text.now) text.now None) }
+{
+    let place = spellings.names.place(text);
+    if let Some(lexeme) = kept_name(&spellings.names, place, text)? {
+        return Ok(lexeme);
+    }
+    spell(alloc, &mut spellings.room, text)?;
+    let spelled = spellings.room.as_str();
+    new_name(alloc, &mut spellings.names, place, text, spelled)
+}
+
+fn word_of(alloc: Global, spellings: &mut Spellings, text: &[char]) -> Result<Lexeme, Memory>
     requires { IsTrue (is_spelled_as_identifier text.now) }
     ensures { IfOk result (λ lexeme. lexeme ≡ word_of (length text.now) text.now) }
 {
-    let spelled = text_of(alloc, text)?;
-    match keyword_of(spelled.as_str()) {
+    match keyword_of(text) {
         Some(keyword) => Ok(Lexeme::Spelled(text.len(), keyword, Value::Nothing)),
-        None => name_of(alloc, text, spelled.as_str()),
+        None => name_of(alloc, spellings, text),
     }
 }
 
 /// The keyword or name that begins with a letter here.
-pub fn word(alloc: Global, first: char, rest: &[char], chars: &[char]) -> Result<Lexeme, Memory>
+pub fn word(
+    alloc: Global,
+    spellings: &mut Spellings,
+    first: char,
+    rest: &[char],
+    chars: &[char],
+) -> Result<Lexeme, Memory>
     requires parts { chars.now ≡ first ∷ rest.now }
     requires letter { IsTrue (is_identifier_start first) }
     ensures { IfOk result (λ lexeme. lexeme ≡ word chars.now) }
 {
     let len = 1 + name_len(rest);
     let (text, _) = chars.split_at(len);
-    word_of(alloc, text)
+    word_of(alloc, spellings, text)
 }
 
 fn continues(chars: &[char]) -> bool
@@ -62,7 +93,7 @@ fn continues(chars: &[char]) -> bool
 {
     match chars {
         [] => false,
-        [c, ..] => is_identifier_continue(*c),
+        [c, ..] => may_continue_name(*c),
     }
 }
 

@@ -1,5 +1,0 @@
-use Rattle.std.proofs.Common.{◌≡◌, ◌++◌, drop, encode_utf8_all, string_bytes}
-use Rattle.py_lexer.proofs.words.text_of.Given as goal
-
-abbrev pub invariant-loop-c : goal.invariant-loop-c
-invariant-loop-c l = string_bytes l.text ++ encode_utf8_all (drop l.c-index l.chars) ≡ encode_utf8_all l.chars
