@@ -1,3 +1,4 @@
+pub mod Alone
 pub mod Fronts
 pub mod Nestings
 pub mod OneAnswer

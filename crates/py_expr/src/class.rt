@@ -1,6 +1,6 @@
 //! The classes of tokens, as numbers: what one token of lookahead tells.
 
-ghost use Rattle.std.specs.Prelude.{◌≡◌, ◌<◌};
+ghost use Rattle.std.specs.Prelude.{◌≡◌, ◌<◌, ◌∷◌, [], ℕ, false};
 ghost use Rattle.phrases.specs.Sets.{has};
 ghost use Rattle.py_ast.specs.Kinds.{name_class, number_class, text_class, part_text_class, class};
 ghost use Rattle.py_ast.specs.Tokens.{leaf_codes, unary_codes, level_codes, comparator_codes, name_codes};
@@ -362,4 +362,27 @@ pub fn begins_operand(level: u8, class: u8) -> bool
         4 => class == CARET,
         _ => class == BAR,
     }
+}
+
+/// Whether the class is that of a binary operator of some level, or begins a comparison.
+pub fn begins_operator(class: u8) -> bool
+    ensures binary { (level : ℕ) → result ≡ false → has (level_codes level) class ≡ false }
+    ensures comparison { result ≡ false → has comparison_first class ≡ false }
+{
+    match class {
+        NOT | IN | IS => true,
+        PLUS | MINUS | STAR | SLASH | DOUBLE_SLASH | PERCENT | AT => true,
+        LEFT_SHIFT | RIGHT_SHIFT | AMPERSAND | BAR | CARET => true,
+        LESS | GREATER | LESS_EQUAL | GREATER_EQUAL | DOUBLE_EQUAL | NOT_EQUAL => true,
+        _ => false,
+    }
+}
+
+/// Whether the class is that of `and`, `or` or `if`.
+pub fn begins_logic(class: u8) -> bool
+    ensures conjunction { result ≡ false → has (18 ∷ []) class ≡ false }
+    ensures disjunction { result ≡ false → has (42 ∷ []) class ≡ false }
+    ensures choice { result ≡ false → has (35 ∷ []) class ≡ false }
+{
+    class == AND || class == OR || class == IF
 }

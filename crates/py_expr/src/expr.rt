@@ -2,20 +2,24 @@
 //!
 //! Each function answers what the reader of its phrase does (`py_ast`'s grammar), with the same room for nestings. What stands in
 //! brackets, and what stands between operators, is read by functions that are passed the reader of one expression.
+//!
+//! Behind most operands no operator stands, and one look at the next token tells so for many levels at once. Where one does
+//! stand, the functions whose names end in `from` go on behind the operand that was read: their contracts speak of whatever
+//! tokens that operand is read from.
 
-ghost use Rattle.std.specs.Prelude.{◌≡◌, ◌+◌, ◌<◌, ◌≤◌, IfOk, length};
+ghost use Rattle.std.specs.Prelude.{◌≡◌, ◌+◌, ◌<◌, ◌≤◌, List, IfOk, length};
 ghost use Rattle.phrases.specs.Reading.{Read};
 ghost use Rattle.phrases.specs.Nesting.{never};
 ghost use Rattle.phrases.specs.Loops.{Gives};
 ghost use Rattle.py_ast.specs.Kinds.{class};
-ghost use Rattle.py_ast.specs.Grammar.{expr_first, primary, exponent, power, conjunction, disjunction, choice, exprs, Whole, Inversion, Factor, nested, shaped, expr};
+ghost use Rattle.py_ast.specs.Grammar.{expr_first, primary, exponent, power, binary, comparison, conjunction, disjunction, choice, exprs, Whole, Inversion, Factor, nested, shaped, expr};
 
 use crate::build::{as_conditional, as_power};
 use crate::class::{DOUBLE_STAR, ELSE, IF, NOT, begins_expr, class_of};
 use crate::inner::exprs_by;
 use crate::logic::disjunction_by;
 use crate::operator::comparison_by;
-use crate::parts::stands_unary;
+use crate::parts::{stands_logic, stands_operator, stands_unary};
 use crate::primary::primary_by;
 use crate::token::{Taken, make_leaf, mark, open, open_unary, stands};
 use phrases::{Fault, Stop};
@@ -29,12 +33,26 @@ use std::alloc::Global;
 ///
 /// Linear in the tokens that it takes.
 #[cycle(expr)]
-#[tactic(auto, using(crate::proofs::Nestings::expr_is), unfolding(py_ast::specs::Grammar::conditional))]
+#[tactic(auto, using(crate::proofs::Alone::expr_alone))]
 pub fn expr_of(alloc: Global, tokens: &[Token], room: u8) -> Taken<'_, Expr>
     ensures read { Gives (λ x. Read x.0 x.1.now) result ((expr room).read tokens.now) }
     ensures shorter { IfOk result (λ x. length x.1.now < length tokens.now) }
 {
-    let (value, rest) = disjunction_of(alloc, tokens, room)?;
+    let (first, rest) = inversion_of(alloc, tokens, room)?;
+    if !stands_logic(rest) {
+        return Ok((first, rest));
+    }
+    expr_from(alloc, first, rest, room)
+}
+
+/// An expression, where its first inversion was read and the tokens begin behind that.
+#[cycle(expr)]
+#[tactic(auto, using(crate::proofs::Nestings::expr_is), unfolding(py_ast::specs::Grammar::conditional))]
+fn expr_from(alloc: Global, first: Expr, tokens: &[Token], room: u8) -> Taken<'_, Expr>
+    ensures read { (ts : List Token) → (shaped Inversion room).read ts ≡ Read first tokens.now → Gives (λ x. Read x.0 x.1.now) result ((expr room).read ts) }
+    ensures no_longer { IfOk result (λ x. length x.1.now ≤ length tokens.now) }
+{
+    let (value, rest) = disjunction_from(alloc, first, tokens, room)?;
     let (choice, rest) = choice_of(alloc, rest, room)?;
     Ok((as_conditional(alloc, value, choice)?, rest))
 }
@@ -62,8 +80,19 @@ fn disjunction_of(alloc: Global, tokens: &[Token], room: u8) -> Taken<'_, Expr>
     ensures read { Gives (λ x. Read x.0 x.1.now) result ((disjunction (conjunction (shaped Inversion room))).read tokens.now) }
     ensures shorter { IfOk result (λ x. length x.1.now < length tokens.now) }
 {
+    let (first, rest) = inversion_of(alloc, tokens, room)?;
+    disjunction_from(alloc, first, rest, room)
+}
+
+/// Operands of `or`, or one alone, where the first inversion was read and the tokens begin behind it.
+#[cycle(expr)]
+fn disjunction_from(alloc: Global, first: Expr, tokens: &[Token], room: u8) -> Taken<'_, Expr>
+    ensures read { (ts : List Token) → (shaped Inversion room).read ts ≡ Read first tokens.now → Gives (λ x. Read x.0 x.1.now) result ((disjunction (conjunction (shaped Inversion room))).read ts) }
+    ensures no_longer { IfOk result (λ x. length x.1.now ≤ length tokens.now) }
+{
     disjunction_by(
         alloc,
+        first,
         tokens,
         room,
         |rest: &[Token]|
@@ -85,16 +114,40 @@ fn inversion_of(alloc: Global, tokens: &[Token], room: u8) -> Taken<'_, Expr>
         let (inner, rest) = inversion_of(alloc, rest, room - 1)?;
         Ok((make_leaf(at, Form::Not(Boxed::new(alloc, inner)?)), rest))
     } else {
-        comparison_by(
-            alloc,
-            tokens,
-            room,
-            |rest: &[Token]|
-                ensures read { Gives (λ x. Read x.0 x.1.now) result ((shaped Factor room).read rest.now) }
-                ensures shorter { IfOk result (λ x. length x.1.now < length rest.now) }
-            { factor_of(alloc, rest, room) },
-        )
+        comparison_of(alloc, tokens, room)
     }
+}
+
+/// A comparison, or what stands in its place alone.
+#[cycle(expr)]
+#[tactic(auto, using(crate::proofs::Alone::comparison_alone))]
+fn comparison_of(alloc: Global, tokens: &[Token], room: u8) -> Taken<'_, Expr>
+    ensures read { Gives (λ x. Read x.0 x.1.now) result ((comparison (binary 6 (shaped Factor room))).read tokens.now) }
+    ensures shorter { IfOk result (λ x. length x.1.now < length tokens.now) }
+{
+    let (first, rest) = factor_of(alloc, tokens, room)?;
+    if !stands_operator(rest) {
+        return Ok((first, rest));
+    }
+    comparison_from(alloc, first, rest, room)
+}
+
+/// A comparison, or what stands in its place alone, where its first factor was read and the tokens begin behind that.
+#[cycle(expr)]
+fn comparison_from(alloc: Global, first: Expr, tokens: &[Token], room: u8) -> Taken<'_, Expr>
+    ensures read { (ts : List Token) → (shaped Factor room).read ts ≡ Read first tokens.now → Gives (λ x. Read x.0 x.1.now) result ((comparison (binary 6 (shaped Factor room))).read ts) }
+    ensures no_longer { IfOk result (λ x. length x.1.now ≤ length tokens.now) }
+{
+    comparison_by(
+        alloc,
+        first,
+        tokens,
+        room,
+        |rest: &[Token]|
+            ensures read { Gives (λ x. Read x.0 x.1.now) result ((shaped Factor room).read rest.now) }
+            ensures shorter { IfOk result (λ x. length x.1.now < length rest.now) }
+        { factor_of(alloc, rest, room) },
+    )
 }
 
 /// A unary operator and its operand, or a power.

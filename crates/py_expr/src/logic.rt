@@ -30,10 +30,11 @@ where
     inversion(tokens)
 }
 
-/// Operands of `or`, or one alone.
-#[tactic(auto, unfolding(py_ast::specs::Grammar::disjunction))]
+/// Operands of `or`, or one alone, where the first inversion was read and the tokens begin behind it.
+#[tactic(auto, unfolding(py_ast::specs::Grammar::conjunction, py_ast::specs::Grammar::disjunction))]
 pub fn disjunction_by<'a, F>(
     alloc: Global,
+    first: Expr,
     tokens: &'a [Token],
     room: u8,
     inversion: F,
@@ -42,10 +43,11 @@ where
     F: Fn(&[Token]) -> Taken<'_, Expr>,
     requires can_call { F.IsAlwaysCallable inversion }
     requires reads { ReadsSome (λ ts r. F.post inversion ts r) (shaped Inversion room).read }
-    ensures read { Gives (λ x. Read x.0 x.1.now) result ((disjunction (conjunction (shaped Inversion room))).read tokens.now) }
-    ensures shorter { IfOk result (λ x. length x.1.now < length tokens.now) }
+    ensures read { (ts : List Token) → (shaped Inversion room).read ts ≡ Read first tokens.now → Gives (λ x. Read x.0 x.1.now) result ((disjunction (conjunction (shaped Inversion room))).read ts) }
+    ensures no_longer { IfOk result (λ x. length x.1.now ≤ length tokens.now) }
 {
-    let (first, rest) = conjunction_by(alloc, tokens, room, &inversion)?;
+    let (others, rest) = conditions_by(alloc, tokens, room, &inversion)?;
+    let first = as_and(alloc, first, others)?;
     let (others, rest) = alternatives_by(alloc, rest, room, &inversion)?;
     Ok((as_or(alloc, first, others)?, rest))
 }

@@ -1,14 +1,17 @@
 //! Productions in which no expression nests: attributes, comparisons, and what begins a larger phrase.
 
-ghost use Rattle.std.specs.Prelude.{◌≡◌, ◌<◌, ◌≤◌, ◌∷◌, [], IfOk, length};
+ghost use Rattle.std.specs.Prelude.{◌≡◌, ◌<◌, ◌≤◌, ◌∷◌, [], ℕ, false, IfOk, length};
 ghost use Rattle.phrases.specs.Sets.{has, starts};
 ghost use Rattle.phrases.specs.Reading.{Read};
 ghost use Rattle.phrases.specs.Loops.{Gives};
 ghost use Rattle.py_ast.specs.Kinds.{class};
-ghost use Rattle.py_ast.specs.Tokens.{unary_codes};
-ghost use Rattle.py_ast.specs.Grammar.{expr_first, argument_first, attribute, after_is, comparator};
+ghost use Rattle.py_ast.specs.Tokens.{unary_codes, level_codes};
+ghost use Rattle.py_ast.specs.Grammar.{expr_first, argument_first, comparison_first, attribute, after_is, comparator};
 
-use crate::class::{DOT, IN, IS, NOT, begins_argument, begins_expr, begins_unary, class_of};
+use crate::class::{
+    DOT, IN, IS, NOT, begins_argument, begins_expr, begins_logic, begins_operand, begins_operator,
+    begins_unary, class_of,
+};
 use crate::token::{Taken, comparator_token, mark, name_token, stands};
 use py_ast::{Comparator, Step, StepForm};
 use py_lexer::Token;
@@ -30,6 +33,40 @@ pub fn stands_unary(tokens: &[Token]) -> bool
 {
     match tokens {
         [first, ..] => begins_unary(class_of(first)),
+        [] => false,
+    }
+}
+
+/// Whether a binary operator of this level stands here, the tightest first.
+pub fn stands_operand(tokens: &[Token], level: u8) -> bool
+    requires { level < 6 }
+    ensures { result ≡ starts class (level_codes level) tokens.now }
+{
+    match tokens {
+        [first, ..] => begins_operand(level, class_of(first)),
+        [] => false,
+    }
+}
+
+/// Whether a binary operator of any level stands here, or a comparison.
+pub fn stands_operator(tokens: &[Token]) -> bool
+    ensures binary { (level : ℕ) → result ≡ false → starts class (level_codes level) tokens.now ≡ false }
+    ensures comparison { result ≡ false → starts class comparison_first tokens.now ≡ false }
+{
+    match tokens {
+        [first, ..] => begins_operator(class_of(first)),
+        [] => false,
+    }
+}
+
+/// Whether `and`, `or` or `if` stands here.
+pub fn stands_logic(tokens: &[Token]) -> bool
+    ensures conjunction { result ≡ false → starts class (18 ∷ []) tokens.now ≡ false }
+    ensures disjunction { result ≡ false → starts class (42 ∷ []) tokens.now ≡ false }
+    ensures choice { result ≡ false → starts class (35 ∷ []) tokens.now ≡ false }
+{
+    match tokens {
+        [first, ..] => begins_logic(class_of(first)),
         [] => false,
     }
 }
