@@ -34,6 +34,15 @@ told-step m after at n b e = e ∙ by (bytes_equal b.name n) (same_name b.name n
     by true same = ap (λ x. Some (with_binding at b (known (m x)))) (same refl)
     by false same = refl
 
+-- what is told grows with what is known before, and no facts are those of no bindings
+pub told_alike : (n : Bytes) (at : ℕ) (f g : Option Facts) (bs : List Binding) → known f ≡ known g → known (told n at f bs) ≡ known (told n at g bs)
+told_alike n at f g [] e = e
+told_alike n at f g (b ∷ bs) e = told_alike n (at + 1) (cond (is_of n b) (Some (with_binding at b (known f))) f) (cond (is_of n b) (Some (with_binding at b (known g))) g) bs (by (is_of n b))
+  where
+    by : (t : Bool) → known (cond t (Some (with_binding at b (known f))) f) ≡ known (cond t (Some (with_binding at b (known g))) g)
+    by true = ap (with_binding at b) e
+    by false = e
+
 -- ---- whether there is one
 
 pub named-told : (n : Bytes) (at : ℕ) (f : Option Facts) (bs : List Binding) → (known (told n at f bs)).named ≡ (known f).named || is_named n bs

@@ -1,16 +1,20 @@
 -- The soonest of lists of faults, one after the other.
-use Rattle.std.proofs.Common.{◌≡◌, Bool, ◌||◌, List, [], ◌∷◌, ◌++◌, append_assoc, map, filter, Option, None, sym, ap, ◌∙◌}
-use Rattle.std.specs.List.{flat_map, fold}
+use Rattle.std.proofs.Common.{◌≡◌, ℕ, Bool, true, false, cond, not, ◌&&◌, ◌||◌, List, [], ◌∷◌, ◌++◌, append_assoc, map, filter, Option, Some, None, ◌==◌, nat_lt, refl, sym, ap, ◌∙◌, arith}
+use Rattle.std.proofs.lemmas.Bool.Decides.{nat_tests}
+use Rattle.std.specs.Cmp.Lexicographic.{bytes_decides}
+use Rattle.std.specs.List.{flat_map, fold, list_any}
 use Rattle.std.proofs.lemmas.List.Sums.{fold-append}
-use Rattle.rv_names.specs.Keys.{Bytes}
-use Rattle.py_ast.specs.Bindings.{bindings}
+use Rattle.rv_names.specs.Keys.{Bytes, bytes_equal}
+use Rattle.py_literals.specs.declared.place.Pos.{Pos}
+use Rattle.py_ast.specs.Bindings.{is_of, bindings, parameter}
 use Rattle.py_ast.specs.Uses.{Uses, used_in_all}
-use Rattle.py_ast.specs.ScopeFaults.{sooner, bound_twice, variable_calls, used_in_body, is_method, globals, functions, classes, is_global_variable, function_faults, class_faults, scope_fault}
+use Rattle.py_ast.specs.ScopeFaults.{is_before, binds, same_thing, first_of, is_fixed_in, differs, binds_again, twice, sooner, bound_twice, is_called, variable_call, variable_calls, parameters, locals, used_in_body, is_method, globals, functions, classes, is_global_variable, function_faults, class_faults, scope_fault}
 use Rattle.py_ast.specs.declared.binding.Binding.{Binding}
 use Rattle.py_ast.specs.declared.binding.ScopeFault.{ScopeFault}
 use Rattle.py_ast.specs.declared.statement.Class.{Class, out-Class}
 use Rattle.py_ast.specs.declared.statement.Function.{Function}
 use Rattle.py_ast.specs.declared.statement.Module.{Module}
+use Rattle.py_ast.specs.declared.statement.Parameter.{Parameter}
 use Rattle.py_ast.specs.declared.statement.Stmt.{Stmt}
 use Rattle.py_scopes.specs.Names.{is_named, is_variable_of}
 use Rattle.py_scopes.specs.Scopes.{function_scope}
@@ -27,6 +31,96 @@ pub function_known : (g : Bytes → Bool) (method : Bool) (f : Function) (known 
 function_known g method f known last s us scope used e =
     e ∙ ap (λ t. fold sooner known (bound_twice t.parameters ++ variable_calls (λ n. is_named n t.locals || g n) us)) scope
     ∙ ap (λ vs. fold sooner known (bound_twice (function_scope method f).parameters ++ variable_calls (λ n. is_named n (function_scope method f).locals || g n) vs)) used
+
+pub and_turned : (a b c : Bool) → (a && c) && b ≡ a && (b && c)
+and_turned true true true = refl
+and_turned true true false = refl
+and_turned true false true = refl
+and_turned true false false = refl
+and_turned false b c = refl
+
+-- ---- a list in which no name comes again
+
+-- each binding has another name than those before it, where these stand before
+abbrev pub Fresh : List Binding → List Binding → Type 0
+Fresh before [] = Unit {0}
+Fresh before (b ∷ bs) = (is_named b.name before ≡ false) × Fresh (before ++ b ∷ []) bs
+
+first_behind : (n : Bytes) (before bs : List Binding) → is_named n before ≡ false → first_of n (before ++ bs) ≡ first_of n bs
+first_behind n [] bs e = refl
+first_behind n (b ∷ before) bs e = by (is_of n b) e (first_behind n before bs)
+  where
+    by : (t : Bool) → t || is_named n before ≡ false → (is_named n before ≡ false → first_of n (before ++ bs) ≡ first_of n bs) → cond (t && binds b.kind) (Some b) (first_of n (before ++ bs)) ≡ first_of n bs
+    by true f more = absurd (cc f)
+    by false f more = more f
+
+less_self : (n : ℕ) → nat_lt n n ≡ false
+less_self n = grind (arith, nat_tests)
+
+before_self : (p : Pos) → is_before p p ≡ false
+before_self p = rw (less_self p.line, less_self p.col) (last (p.line == p.line))
+  where
+    last : (t : Bool) → (t && false) ≡ false
+    last true = refl
+    last false = refl
+
+-- the first of its name isn't bound again
+not_again : (b : Binding) (bs all : List Binding) → first_of b.name all ≡ first_of b.name (b ∷ bs) → binds_again all b ≡ false
+not_again b bs all e = ap (λ f. binds b.kind && is_fixed_in all b.name && differs f b) (e ∙ ap (λ t. cond (t && binds b.kind) (Some b) (first_of b.name bs)) ((bytes_decides b.name b.name).1 refl)) ∙ by (binds b.kind) (is_fixed_in all b.name)
+  where
+    by : (t u : Bool) → t && u && differs (cond t (Some b) (first_of b.name bs)) b ≡ false
+    by false u = refl
+    by true false = refl
+    by true true = ap (λ x. x && not (same_thing b.kind b.kind)) (before_self b.at)
+
+fresh_once : (before bs all : List Binding) → all ≡ before ++ bs → Fresh before bs → filter (binds_again all) bs ≡ []
+fresh_once before [] all e h = refl
+fresh_once before (b ∷ bs) all e h =
+    ap (λ t. cond t (b ∷ filter (binds_again all) bs) (filter (binds_again all) bs)) (not_again b bs all (ap (first_of b.name) e ∙ first_behind b.name before (b ∷ bs) h.0))
+    ∙ fresh_once (before ++ b ∷ []) bs all (e ∙ sym (append_assoc before (b ∷ []) bs)) h.1
+
+pub fresh_list : (bs : List Binding) → Fresh [] bs → bound_twice bs ≡ []
+fresh_list bs h = ap (map twice) (fresh_once [] bs bs refl h)
+
+pub named_parameter : (n : Bytes) (ps : List Parameter) → list_any (λ p. bytes_equal p.name.name n) ps ≡ is_named n (map parameter ps)
+named_parameter n [] = refl
+named_parameter n (p ∷ ps) = ap (λ t. bytes_equal p.name.name n || t) (named_parameter n ps)
+
+pub fresh_known : (known : Option ScopeFault) (bs cs : List Binding) → bs ≡ cs → bound_twice bs ≡ [] → known ≡ fold sooner known (bound_twice cs)
+fresh_known known bs cs same none = ap (fold sooner known) (sym none) ∙ ap (λ ds. fold sooner known (bound_twice ds)) same
+
+-- where no use is a call, none is the call of a variable
+no_calls : (p : Bytes → Bool) (us : Uses) → list_any (λ u. is_called u.how) us ≡ false → variable_calls p us ≡ []
+no_calls p [] e = refl
+no_calls p (u ∷ us) e = by (is_called u.how) e (no_calls p us)
+  where
+    rest : Uses
+    rest = filter (λ v. is_called v.how && p v.name) us
+
+    by : (t : Bool) → t || list_any (λ v. is_called v.how) us ≡ false → (list_any (λ v. is_called v.how) us ≡ false → map variable_call rest ≡ []) → map variable_call (cond (t && p u.name) (u ∷ rest) rest) ≡ []
+    by true f more = absurd (cc f)
+    by false f more = more f
+
+pub quiet_known : (p : Bytes → Bool) (known : Option ScopeFault) (us vs : Uses) → us ≡ vs → list_any (λ u. is_called u.how) us ≡ false → known ≡ fold sooner known (variable_calls p vs)
+quiet_known p known us vs same quiet = ap (fold sooner known) (sym (no_calls p us quiet)) ∙ ap (λ ws. fold sooner known (variable_calls p ws)) same
+
+-- of the calls in a function, by its locals and what its body uses
+pub call_known : (g : Bytes → Bool) (f : Function) (known last : Option ScopeFault) (ls : List Binding) (us : Uses)
+    → ls ≡ locals f → us ≡ used_in_body f
+    → last ≡ fold sooner known (variable_calls (λ n. is_named n ls || g n) us)
+    → last ≡ fold sooner known (variable_calls (λ n. is_named n (locals f) || g n) (used_in_body f))
+call_known g f known last ls us own used e =
+    e ∙ ap (λ ms. fold sooner known (variable_calls (λ n. is_named n ms || g n) us)) own
+    ∙ ap (λ vs. fold sooner known (variable_calls (λ n. is_named n (locals f) || g n) vs)) used
+
+-- of a function, by its parameters and then by the calls in it
+pub faults_known : (g : Bytes → Bool) (f : Function) (known first last : Option ScopeFault) (ps : List Binding)
+    → ps ≡ parameters f → first ≡ fold sooner known (bound_twice ps)
+    → last ≡ fold sooner first (variable_calls (λ n. is_named n (locals f) || g n) (used_in_body f))
+    → last ≡ fold sooner known (function_faults g f)
+faults_known g f known first last ps own twice e =
+    let calls = variable_calls (λ n. is_named n (locals f) || g n) (used_in_body f) in
+    e ∙ ap (λ k. fold sooner k calls) (twice ∙ ap (λ qs. fold sooner known (bound_twice qs)) own) ∙ fold_more known (bound_twice (parameters f)) calls
 
 -- of a module's top level, where there are no locals
 pub module_known : (m : Module) (last : Option ScopeFault) (gs locals : List Binding) (us : Uses)
@@ -65,6 +159,14 @@ read_known m own before last gs ss body bound first second third =
     ∙ ap (λ ts. fold sooner (fold sooner (fold sooner None top) (flat_map (function_faults (λ n. is_variable_of n (bindings ts))) (functions ts))) (flat_map (class_faults (λ n. is_variable_of n (bindings ts))) (classes ts))) body
     ∙ ap (λ k. fold sooner k (flat_map (class_faults (is_global_variable m)) (classes m.body))) (fold_more None top (flat_map (function_faults (is_global_variable m)) (functions m.body)))
     ∙ fold_more None (top ++ flat_map (function_faults (is_global_variable m)) (functions m.body)) (flat_map (class_faults (is_global_variable m)) (classes m.body))
+
+-- one more in a loop that keeps the soonest fault
+pub fault_more : {A : Type 0} (faults : A → List ScopeFault) (fault next : Option ScopeFault) (here rest : List A) (a : A) (last : Option ScopeFault)
+    → here ≡ a ∷ rest → next ≡ fold sooner fault (faults a)
+    → fold sooner fault (flat_map faults here) ≡ last
+    → fold sooner next (flat_map faults rest) ≡ last
+fault_more faults fault next here rest a last split step inv =
+    ap (λ k. fold sooner k (flat_map faults rest)) step ∙ fold_more fault (faults a) (flat_map faults rest) ∙ sym (ap (λ h. fold sooner fault (flat_map faults h)) split) ∙ inv
 
 -- one more in a loop that lists scopes and keeps the soonest fault
 pub loop_more : {A S : Type 0} (F : A → S) (faults : A → List ScopeFault) (found after : List S) (fault next : Option ScopeFault) (here rest : List A) (a : A) (s : S) (all : List S) (last : Option ScopeFault)

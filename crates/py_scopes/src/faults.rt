@@ -1,15 +1,15 @@
 //! Names that are bound again, and calls of variables.
 
-ghost use Rattle.std.specs.Prelude.{◌≡◌, ◌&&◌, ◌||◌, fold, option_copied, IfOk};
+ghost use Rattle.std.specs.Prelude.{◌≡◌, ◌&&◌, ◌||◌, [], true, fold, option_copied, IfOk};
 ghost use Rattle.py_ast.specs.ScopeFaults.{differs, binds_again, bound_twice, is_called, variable_calls, place, sooner};
 ghost use Rattle.py_scopes.specs.Names.{is_named, is_variable_of};
 
 use crate::kinds::{binds, is_before, same_thing};
-use crate::scope::Scope;
+use crate::scope::{FEW, Scope};
 use py_ast::{Binding, How, ScopeFault, Use};
 use py_lexer::Form;
 use py_literals::place::Pos;
-use rv_names::Memory;
+use rv_names::{Memory, Name};
 
 fn place(fault: &ScopeFault) -> Pos
     ensures { result ≡ place fault.now }
@@ -47,13 +47,33 @@ fn differs(first: Option<&Binding>, binding: &Binding) -> bool
     }
 }
 
-/// Whether the binding binds a name again that one of the bindings fixes.
+/// Whether the binding binds a name again that one of the bindings fixes, which is asked last: few are behind a first.
+#[tactic(auto, using(crate::proofs::FaultLemmas::and_turned))]
 fn binds_again(scope: &Scope, binding: &Binding) -> bool
     ensures { result ≡ binds_again scope.now binding.now }
 {
     binds(&binding.kind)
-        && scope.is_fixed(&binding.name)
         && differs(scope.first(&binding.name), binding)
+        && scope.is_fixed(&binding.name)
+}
+
+/// Whether one of the bindings is of the name.
+fn is_named(bindings: &[Binding], name: &Name) -> bool
+    ensures { result ≡ is_named name.now bindings.now }
+{
+    bindings.iter().any(|binding| binding.name == *name)
+}
+
+/// Whether no name comes again, where a comparison for each pair of bindings costs less than to ask for each name.
+fn are_apart(bindings: &[Binding]) -> bool
+    ensures { result ≡ true → bound_twice bindings.now ≡ [] }
+{
+    for (place, binding) in bindings.iter().enumerate() {
+        if is_named(&bindings[..place], &binding.name) {
+            return false;
+        }
+    }
+    true
 }
 
 /// The sooner of what is known and of the names of the scope that are bound again. Linear in its bindings.
@@ -61,6 +81,9 @@ pub fn bound_twice(scope: &Scope, known: Option<ScopeFault>) -> Result<Option<Sc
     ensures { IfOk result (λ f. f ≡ fold sooner known (bound_twice scope.now)) }
 {
     let bindings = scope.bindings();
+    if bindings.len() <= FEW && are_apart(bindings) {
+        return Ok(known);
+    }
     let mut found = known;
     for binding in bindings {
         if binds_again(scope, binding) {

@@ -5,13 +5,15 @@
 //! * `kinds`: what kinds of bindings say;
 //! * `facts`, `scope`: the bindings of one scope, by name; `usage`: the uses of one body, by name;
 //! * `faults`: names that are bound again, and calls of variables; `owned`: the names that a function owns;
-//! * `layers`: the scopes of a module, one in another; `module`: how they are read, and `error` why there are none.
+//! * `layers`: the scopes of a module, one in another; `module`: how they are read, and `error` why there are none;
+//! * `first_fault`: the fault without the scopes.
 #![tactic(auto)]
 
 mod bindings;
 mod error;
 mod facts;
 mod faults;
+mod first_fault;
 mod kinds;
 mod layers;
 mod module;
@@ -22,6 +24,7 @@ mod usage;
 mod uses;
 
 pub use error::ScopeError;
+pub use first_fault::scope_fault;
 pub use layers::{ClassScope, FunctionScope, Scopes};
 pub use module::scopes;
 pub use scope::Scope;

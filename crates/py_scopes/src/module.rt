@@ -18,29 +18,44 @@ use crate::owned::{copy, first_owned, locals_owned};
 use crate::scope::Scope;
 use crate::usage::Usage;
 use crate::{bindings, statements};
-use py_ast::{Class, Function, Module, Parameter, ScopeFault, Stmt, StmtForm};
+use py_ast::{Binding, Class, Function, Module, Parameter, ScopeFault, Stmt, StmtForm, Use};
 use rv_names::{Memory, Name};
 use sqlite_items::Items;
 use std::alloc::Global;
 
 /// The bindings of the statements, outside of loops.
-fn scope_of(alloc: Global, stmts: &[Stmt]) -> Result<Scope, Memory>
-    ensures { IfOk result (λ s. s ≡ bindings stmts.now) }
+pub fn bindings_of(alloc: Global, stmts: &[Stmt]) -> Result<Items<Binding>, Memory>
+    ensures { IfOk result (λ bs. bs ≡ bindings stmts.now) }
 {
     let mut found = Items::new(alloc);
     bindings::block(alloc, stmts, false, &mut found)?;
-    Scope::new(alloc, found)
+    Ok(found)
+}
+
+/// Their scope.
+pub fn scope_of(alloc: Global, stmts: &[Stmt]) -> Result<Scope, Memory>
+    ensures { IfOk result (λ s. s ≡ bindings stmts.now) }
+{
+    Scope::new(alloc, bindings_of(alloc, stmts)?)
+}
+
+/// The uses of names in the statements.
+pub fn uses_of(alloc: Global, stmts: &[Stmt]) -> Result<Items<Use>, Memory>
+    ensures { IfOk result (λ us. us ≡ used_in_all stmts.now) }
+{
+    let mut found = Items::new(alloc);
+    statements::block(stmts, &mut found)?;
+    Ok(found)
 }
 
 fn usage_of(alloc: Global, stmts: &[Stmt]) -> Result<Usage, Memory>
     ensures { IfOk result (λ u. u ≡ used_in_all stmts.now) }
 {
-    let mut found = Items::new(alloc);
-    statements::block(stmts, &mut found)?;
-    Usage::new(alloc, found)
+    Usage::new(alloc, uses_of(alloc, stmts)?)
 }
 
-fn parameters_of(alloc: Global, items: &[Parameter]) -> Result<Scope, Memory>
+/// The scope of the parameters alone.
+pub fn parameters_of(alloc: Global, items: &[Parameter]) -> Result<Scope, Memory>
     ensures { IfOk result (λ s. s ≡ map parameter items.now) }
 {
     let mut found = Items::new(alloc);
@@ -48,7 +63,8 @@ fn parameters_of(alloc: Global, items: &[Parameter]) -> Result<Scope, Memory>
     Scope::new(alloc, found)
 }
 
-fn locals_of(alloc: Global, function: &Function) -> Result<Scope, Memory>
+/// The scope of the function's own names.
+pub fn locals_of(alloc: Global, function: &Function) -> Result<Scope, Memory>
     ensures { IfOk result (λ s. s ≡ locals function.now) }
 {
     let mut found = Items::new(alloc);
@@ -109,14 +125,14 @@ fn function_scope(
 fn body_fault(
     bound: &Scope,
     locals: &Scope,
-    usage: &Usage,
+    uses: &[Use],
     globals: &Scope,
     known: Option<ScopeFault>,
 ) -> Result<Option<ScopeFault>, Memory>
-    ensures { IfOk result (λ f. f ≡ fold sooner known (bound_twice bound.now ++ variable_calls (λ n. is_named n locals.now || is_variable_of n globals.now) usage.now)) }
+    ensures { IfOk result (λ f. f ≡ fold sooner known (bound_twice bound.now ++ variable_calls (λ n. is_named n locals.now || is_variable_of n globals.now) uses.now)) }
 {
     let known = bound_twice(bound, known)?;
-    Ok(variable_calls(usage.uses(), locals, globals, known))
+    Ok(variable_calls(uses, locals, globals, known))
 }
 
 fn read_function(
@@ -131,7 +147,8 @@ fn read_function(
 {
     let usage = usage_of(alloc, function.body.as_slice())?;
     let scope = function_scope(alloc, method, function, &usage)?;
-    let fault = body_fault(&scope.parameters, &scope.locals, &usage, globals, known)?;
+    let uses = usage.uses();
+    let fault = body_fault(&scope.parameters, &scope.locals, uses, globals, known)?;
     Ok((scope, fault))
 }
 
@@ -160,12 +177,11 @@ fn read_functions(
 }
 
 /// The methods among the members of a class.
-fn methods_of(alloc: Global, members: &Scope) -> Result<Scope, Memory>
+pub fn methods_of(alloc: Global, members: &[Binding]) -> Result<Scope, Memory>
     ensures { IfOk result (λ s. s ≡ filter is_method members.now) }
 {
-    let bindings = members.bindings();
     let mut found = Items::new(alloc);
-    for binding in bindings {
+    for binding in members {
         if is_function(&binding.kind) {
             found.push(copy(binding)?)?;
         }
@@ -183,7 +199,7 @@ fn read_class(
     ensures fault { IfOk result (λ r. r.1 ≡ fold sooner known (class_faults (λ n. is_variable_of n globals.now) class.now)) }
 {
     let members = scope_of(alloc, class.body.as_slice())?;
-    let known = bound_twice(&methods_of(alloc, &members)?, known)?;
+    let known = bound_twice(&methods_of(alloc, members.bindings())?, known)?;
     let mut methods = Items::new(alloc);
     let fault = read_functions(
         alloc,
@@ -226,7 +242,7 @@ fn read_classes(
 }
 
 /// The fault of the module's own names: those that are bound again, and calls at its top level.
-fn module_fault(
+pub fn module_fault(
     alloc: Global,
     tree: &Module,
     variables: &Scope,
@@ -234,9 +250,9 @@ fn module_fault(
     requires { variables.now ≡ globals tree.now }
     ensures { IfOk result (λ f. f ≡ fold sooner None (bound_twice (globals tree.now) ++ variable_calls (is_global_variable tree.now) (used_in_all tree.now.body))) }
 {
-    let usage = usage_of(alloc, tree.body.as_slice())?;
+    let uses = uses_of(alloc, tree.body.as_slice())?;
     let locals = Scope::new(alloc, Items::new(alloc))?;
-    body_fault(variables, &locals, &usage, variables, None)
+    body_fault(variables, &locals, uses.as_slice(), variables, None)
 }
 
 /// The scopes of the module, and its fault of least place.

@@ -4,7 +4,7 @@ ghost use Rattle.std.specs.Prelude.{◌≡◌, IfOk, option_copied, None};
 ghost use Rattle.py_ast.specs.ScopeFaults.{first_of, is_fixed_in};
 ghost use Rattle.py_ast.specs.Owned.{is_bound_once};
 ghost use Rattle.indexmap.specs.IndexMap.{get};
-ghost use Rattle.rv_names.specs.Keys.{bytes_equal};
+ghost use Rattle.rv_names.specs.Keys.{Bytes, bytes_equal};
 ghost use Rattle.py_scopes.specs.Facts.{known, told, or_look, alone};
 ghost use Rattle.py_scopes.specs.Names.{is_named, is_variable_of, only_binding, only_annotation};
 
@@ -17,7 +17,7 @@ use std::alloc::Global;
 use std::marker::Model;
 
 /// The bindings of one scope, in order of place, which contracts see as their list. What is asked of one name is found by its
-/// hash, at no cost that grows with the bindings.
+/// hash, at no cost that grows with the bindings; where they are few, there are no hashes, and the list is searched.
 #[derive(Drop)]
 pub struct Scope {
     bindings: Items<Binding>,
@@ -25,7 +25,7 @@ pub struct Scope {
 }
 
 impl Model for Scope {
-    ghost use Rattle.std.specs.Prelude.{◌≡◌, List, None};
+    ghost use Rattle.std.specs.Prelude.{◌≡◌, ◌<◌, List, None, length};
     ghost use Rattle.indexmap.specs.IndexMap.{get};
     ghost use Rattle.rv_names.specs.Keys.{Bytes, bytes_equal};
     ghost use Rattle.py_ast.specs.declared.binding.Binding.{Binding};
@@ -35,7 +35,23 @@ impl Model for Scope {
 
     ghost view = { λ s. s.bindings };
 
-    ghost invariant = { λ s. (n : Bytes) → get bytes_equal s.names n ≡ told n 0 None s.bindings };
+    ghost invariant = { λ s. 8 < length s.bindings → (n : Bytes) → get bytes_equal s.names n ≡ told n 0 None s.bindings };
+}
+
+/// Up to so many bindings a list is searched sooner than a table is made.
+pub const FEW: usize = 8;
+
+/// What the list says of the name. Linear in it.
+fn searched(bindings: &[Binding], name: &Name) -> Facts
+    ensures { result ≡ known (told name.now 0 None bindings.now) }
+{
+    let mut facts = Facts::none();
+    for (place, binding) in bindings.iter().enumerate() {
+        if binding.name == *name {
+            facts = facts.with(place, binding);
+        }
+    }
+    facts
 }
 
 /// What is known of the name.
@@ -48,17 +64,30 @@ fn known(names: &IndexMap<Name, Facts>, name: &Name) -> Facts
     }
 }
 
+/// What the list says of each name. Linear in it.
+fn table(alloc: Global, bindings: &[Binding]) -> Result<IndexMap<Name, Facts>, Memory>
+    ensures { IfOk result (λ m. (n : Bytes) → get bytes_equal m n ≡ told n 0 None bindings.now) }
+{
+    let mut names = IndexMap::with_capacity(alloc, bindings.len())?;
+    for (place, binding) in bindings.iter().enumerate() {
+        let before = known(&names, &binding.name);
+        names.insert(binding.name.copy()?, before.with(place, binding))?;
+    }
+    Ok(names)
+}
+
 impl Scope {
     /// The scope of these bindings. Linear in them.
     pub fn new(alloc: Global, bindings: Items<Binding>) -> Result<Scope, Memory>
         ensures { IfOk result (λ s. s ≡ bindings) }
     {
-        let mut names = IndexMap::new(alloc);
-        for (place, binding) in bindings.as_slice().iter().enumerate() {
-            let before = known(&names, &binding.name);
-            names.insert(binding.name.copy()?, before.with(place, binding))?;
+        if bindings.len() <= FEW {
+            let names = IndexMap::new(alloc);
+            Ok(Scope { bindings, names })
+        } else {
+            let names = table(alloc, bindings.as_slice())?;
+            Ok(Scope { bindings, names })
         }
-        Ok(Scope { bindings, names })
     }
 
     /// All bindings, in order of place.
@@ -71,7 +100,11 @@ impl Scope {
     fn facts(&self, name: &Name) -> Facts
         ensures { result ≡ known (told name.now 0 None self.now) }
     {
-        known(&self.names, name)
+        if self.bindings.len() <= FEW {
+            searched(self.bindings.as_slice(), name)
+        } else {
+            known(&self.names, name)
+        }
     }
 
     /// What stands at the place.

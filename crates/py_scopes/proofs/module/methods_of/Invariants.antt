@@ -3,4 +3,4 @@ use Rattle.py_ast.specs.ScopeFaults.{is_method}
 use Rattle.py_scopes.proofs.module.methods_of.Given as goal
 
 abbrev pub invariant-loop-binding : goal.invariant-loop-binding
-invariant-loop-binding l = l.found ++ filter is_method (drop l.binding-index l.bindings) ≡ filter is_method l.bindings
+invariant-loop-binding l = l.found ++ filter is_method (drop l.binding-index l.members) ≡ filter is_method l.members

@@ -11,7 +11,7 @@ pub returns : goal.returns
 returns c =
     let gs = c.args.variables.now in
     let ls = c.in_ok-locals.locals in
-    let us = c.in_ok-usage.usage in
+    let us = c.as_slice-2.result.now in
     let last = fold sooner None (bound_twice gs ++ variable_calls (λ n. is_named n ls || is_variable_of n gs) us) in
     let P : Option ScopeFault → Type 0 = λ x. IfOk c.body_fault.result (λ f. f ≡ x) in
-    subst P (module_known c.args.tree.now last gs ls us c.requires (c.in_ok-locals.ensures ∙ c.new.ensures) (c.in_ok-usage.ensures ∙ ap used_in_all c.as_slice.ensures) refl) c.body_fault.ensures
+    subst P (module_known c.args.tree.now last gs ls us c.requires (c.in_ok-locals.ensures ∙ c.new.ensures) (c.as_slice-2.ensures ∙ c.in_ok-uses.ensures ∙ ap used_in_all c.as_slice.ensures) refl) c.body_fault.ensures
