@@ -262,9 +262,10 @@ where
 pub fn single(alloc: Global, statement: Stmt) -> Result<Items<Stmt>, AllocError>
     ensures { IfOk result (λ all. all ≡ statement ∷ []) }
 {
-    let mut all = Items::new(alloc);
-    all.push(statement)?;
-    Ok(all)
+    // With room for no other, as nothing is added to most such lists.
+    let mut all = Vec::with_capacity(alloc, 1)?;
+    all.push_reserved(statement);
+    Ok(Items::from_vec(all))
 }
 
 /// An `if` or a loop, as the statements of a line.

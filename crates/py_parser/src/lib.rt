@@ -9,7 +9,7 @@
 //! * `lists`: lists of lists;
 //! * `files`: whole files;
 //! * `reading`: the module of a file, or its fault;
-//! * `parsing`: `parse`, a text with its module, or the text's fault.
+//! * `parsing`: `parse` and `parse_with`, a text with its module, or the text's fault.
 #![tactic(auto)]
 
 mod blocks;
@@ -21,5 +21,5 @@ mod parsing;
 mod reading;
 mod suites;
 
-pub use parsing::{FileError, parse};
+pub use parsing::{FileError, parse, parse_with};
 pub use reading::{GrammarError, module_of_tokens};

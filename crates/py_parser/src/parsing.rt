@@ -9,9 +9,9 @@ ghost use Rattle.py_parser.specs.Refusals.{IsRefused, IsUnspelled};
 
 use crate::reading::{GrammarError, module_of_tokens};
 use py_ast::{Module, Parsed};
-use py_lexer::{Form, LexError, LexKind, lex};
+use py_lexer::{Form, LexError, LexKind, Scratch, lex_with};
 use py_literals::place::Pos;
-use py_scopes::{ScopeError, scopes};
+use py_scopes::{ScopeError, scope_fault};
 use rv_names::{Name, Text};
 use std::alloc::Global;
 
@@ -66,12 +66,12 @@ fn from_scopes(error: ScopeError) -> FileError
 }
 
 /// The module that a text spells.
-fn module_of(alloc: Global, text: &str) -> Result<Module, FileError>
+fn module_of(alloc: Global, scratch: &mut Scratch, text: &str) -> Result<Module, FileError>
     requires { length text.now < 2 ^ 31 }
     ensures spelled { IfOk result (IsSpelled text.now) }
     ensures refused { IfErr result (IsRefused text.now) }
 {
-    let tokens = match lex(alloc, text) {
+    let tokens = match lex_with(alloc, scratch, text) {
         Ok(tokens) => tokens,
         Err(error) => return Err(from_lexer(error)),
     };
@@ -92,8 +92,20 @@ pub fn parse(alloc: Global, text: &str) -> Result<Parsed, FileError>
     ensures scopes { IfOk result (λ p. HasNoScopeFault p.tree) }
     ensures refused { IfErr result (IsRefused text.now) }
 {
-    let tree = module_of(alloc, text)?;
-    if let Err(error) = scopes(alloc, &tree) {
+    let mut scratch = Scratch::new(alloc);
+    parse_with(alloc, &mut scratch, text)
+}
+
+/// What `parse` answers. The names of the texts that were read before with the same scratch are shared where they come again.
+pub fn parse_with(alloc: Global, scratch: &mut Scratch, text: &str) -> Result<Parsed, FileError>
+    requires { length text.now < 2 ^ 31 }
+    ensures text { IfOk result (λ p. p.text ≡ text.now) }
+    ensures spelled { IfOk result (λ p. IsSpelled text.now p.tree) }
+    ensures scopes { IfOk result (λ p. HasNoScopeFault p.tree) }
+    ensures refused { IfErr result (IsRefused text.now) }
+{
+    let tree = module_of(alloc, scratch, text)?;
+    if let Err(error) = scope_fault(alloc, &tree) {
         return Err(from_scopes(error));
     }
     match Text::read(alloc, text) {

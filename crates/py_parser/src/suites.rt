@@ -15,13 +15,12 @@ ghost use Rattle.py_parser.specs.Suites.{ReadsSuites, statement, statement_first
 use crate::blocks::single_compound_of;
 use crate::definitions::single_function_of;
 use crate::lines::{Simples, line_of};
-use crate::lists::flattened;
+use crate::lists::joined;
 use phrases::{Fault, Stop, many};
 use py_ast::{Stmt, Suite};
 use py_expr::class::class_of;
 use py_expr::token::{Taken, mark, stands};
 use py_lexer::Token;
-use py_simple::imports::prepended;
 use py_simple::words::{
     DEDENT, INDENT, NEWLINE, begins_compound, begins_function, begins_member, begins_simple,
     stands_compound, stands_function,
@@ -175,8 +174,7 @@ where
     let (first, rest) = statement_of(alloc, rest, room, kind, &suite)?;
     let (others, rest) = statements_of(alloc, rest, room, kind, &suite)?;
     let (_, rest) = mark(rest, DEDENT)?;
-    let all = prepended(alloc, first, others)?;
-    Ok((flattened(alloc, all)?, rest))
+    Ok((joined(alloc, first, others)?, rest))
 }
 
 /// Whether the class begins what stands behind a `:`.

@@ -33,7 +33,8 @@ pub fn name_of(tokens: &[Token]) -> Taken<'_, NameAt>
 pub fn prepended<A: Drop>(alloc: Global, first: A, others: Items<A>) -> Result<Items<A>, AllocError>
     ensures { IfOk result (λ all. all ≡ first ∷ others) }
 {
-    let mut all = Items::new(alloc);
+    let room = others.len().saturating_add(1);
+    let mut all = Items::from_vec(Vec::with_capacity(alloc, room)?);
     all.push(first)?;
     all.append(others)?;
     Ok(all)

@@ -1,6 +1,6 @@
 use Rattle.std.proofs.Common.{◌≡◌, ◌++◌, ◌∷◌, length, reverse}
 use Rattle.py_ast.specs.Trees.{given}
-use Rattle.py_ast.proofs.lists.given_after.Given as goal
+use Rattle.py_ast.proofs.lists.all_after.Given as goal
 
 abbrev pub decreases-loop-item : goal.decreases-loop-item
 decreases-loop-item g l = length l.rest
