@@ -1,10 +1,11 @@
 //! A whole check, from a source to a sink.
 
-ghost use Rattle.std.specs.Prelude.{◌≤◌};
+ghost use Rattle.std.specs.Prelude.{◌≡◌, ◌≤◌};
 ghost use Rattle.std.specs.Io.KnownBytes.{Appends};
 ghost use Rattle.rv_names.specs.Keys.{Bytes};
 ghost use Rattle.rv_io.specs.Counts.{Rises};
 ghost use Rattle.check_stream.specs.Checks.{Checked, IsAll, Takes};
+ghost use Rattle.check_stream.specs.Progress.{at_first};
 
 use crate::sending::send;
 use crate::session::Session;
@@ -12,6 +13,7 @@ use crate::statuses::{NO_MEMORY, SINK_FAILED};
 use crate::turn::{Turn, take_turn};
 use rv_io::{Sink, Source, write_all};
 use std::alloc::Global;
+use std::mem::forget;
 use stream::Stream;
 
 /// A whole check: acts on the commands of the source's input one after the other, and writes the line of each before it
@@ -32,6 +34,8 @@ use stream::Stream;
 /// memory, when it has the lines of whole commands.
 ///
 /// The cost is linear in the input, but for the readers of files (`front`), their edits (`journal`), and the report.
+///
+/// What the files were read as is never freed: a check is the last thing that a program does.
 pub fn check_call<S: Source, K: Sink>(alloc: Global, source: &mut S, sink: &mut K) -> u8
     // The bytes that were taken decide the status and the bytes that were written.
     ensures checked { (input : Bytes) × (out : Bytes)
@@ -43,9 +47,31 @@ pub fn check_call<S: Source, K: Sink>(alloc: Global, source: &mut S, sink: &mut 
     ensures sink_never_falls { K.faults sink.old ≤ K.faults sink.new }
 {
     let mut session = Session::new(alloc);
+    let status = take_turns(alloc, &mut session, source, sink);
+    // The system takes all memory back at once where the program ends, which is much faster than to free each tree before.
+    forget(session);
+    status
+}
+
+/// Takes turns, from the first command on, until the check ends.
+fn take_turns<S: Source, K: Sink>(
+    alloc: Global,
+    session: &mut Session,
+    source: &mut S,
+    sink: &mut K,
+) -> u8
+    requires { session.old ≡ at_first }
+    ensures checked { (input : Bytes) × (out : Bytes)
+        × Takes result (S.left source.old) (S.left source.new) input
+        × Appends (K.held sink.old) (K.held sink.new) out
+        × Checked result input out (IsAll (S.left source.old) input)
+        (Rises (S.faults source.old) (S.faults source.new)) (Rises (K.faults sink.old) (K.faults sink.new)) }
+    ensures source_never_falls { S.faults source.old ≤ S.faults source.new }
+    ensures sink_never_falls { K.faults sink.old ≤ K.faults sink.new }
+{
     let mut stream = Stream::new(alloc);
     loop {
-        match take_turn(alloc, &mut session, &mut stream, source) {
+        match take_turn(alloc, session, &mut stream, source) {
             Ok(Turn::Lines(lines)) => match write_all(sink, &lines) {
                 Ok(()) => {}
                 Err(_) => return SINK_FAILED,

@@ -16,8 +16,9 @@ use crate::statuses::{ISSUES, NO_ISSUE, REFUSED, UNANSWERED};
 use crate::turn::Turn;
 use cut_form::report;
 use edit_lines::{fault_line, kept_line, misread_line, not_yet_line, sync_line};
-use front::{ReadFault, read_file};
+use front::{ReadFault, read_file_with};
 use journal::{EditFault, Journal, ReadEdit};
+use py_lexer::Scratch;
 use rv_names::{Memory, Text};
 use script::Command;
 use std::alloc::Global;
@@ -29,6 +30,7 @@ use std::sync::Arc;
 pub struct Session {
     journal: Journal,
     refused: bool,
+    scratch: Scratch,
 }
 
 impl Model for Session {
@@ -51,6 +53,7 @@ impl Session {
         Session {
             journal: Journal::new(alloc),
             refused: false,
+            scratch: Scratch::new(alloc),
         }
     }
 
@@ -83,7 +86,7 @@ impl Session {
     fn put(&mut self, alloc: Global, path: Text, file: &[u8]) -> Result<Vec<u8>, Memory>
         ensures { IfOk result (λ line. Puts self.old path file.now line.items self.new) }
     {
-        let item = match read_file(alloc, path.as_str(), file) {
+        let item = match read_file_with(alloc, &mut self.scratch, path.as_str(), file) {
             Ok(item) => Arc::new(alloc, item)?,
             Err(fault) => return self.misread(alloc, &path, &fault),
         };

@@ -8,8 +8,10 @@ ghost use Rattle.front.specs.declared.faults.ReadFault.TheVariants.{Memory};
 
 use crate::faults::ReadFault;
 use project::{Item, PathKind, kind_of_path};
-use py_parser::{FileError, parse};
+use py_lexer::Scratch;
+use py_parser::{FileError, parse_with};
 use pysa_syntax::{ModelError, read_models};
+use simdutf8::basic::from_utf8;
 use std::alloc::Global;
 use std::sync::Arc;
 use taint_config::{ConfigError, read_config};
@@ -37,19 +39,19 @@ fn text_of(bytes: &[u8]) -> Result<&str, ReadFault>
     if bytes.len() > FILE_LIMIT {
         return Err(ReadFault::TooLarge);
     }
-    match str::from_utf8(bytes) {
+    match from_utf8(bytes) {
         Ok(text) => Ok(text),
         Err(_) => Err(ReadFault::NotUtf8),
     }
 }
 
 /// The module of a Python file.
-fn module_item(alloc: Global, text: &str) -> Result<Item, ReadFault>
+fn module_item(alloc: Global, scratch: &mut Scratch, text: &str) -> Result<Item, ReadFault>
     requires { length text.now ≤ file_limit }
     ensures accepted { IfOk result (IsPython text.now) }
     ensures refused { IfErr result (λ fault. fault ≢ Memory → FailsAsPython text.now fault) }
 {
-    match parse(alloc, text) {
+    match parse_with(alloc, scratch, text) {
         Ok(parsed) => Ok(Item::Module(Arc::new(alloc, parsed)?)),
         Err(FileError::Memory) => Err(ReadFault::Memory),
         Err(fault) => Err(ReadFault::Python(fault)),
@@ -82,7 +84,12 @@ fn config_item(alloc: Global, bytes: &[u8]) -> Result<Item, ReadFault>
 }
 
 /// The item that the text is, by what stands at its path.
-fn item_as(alloc: Global, kind: &PathKind, text: &str) -> Result<Item, ReadFault>
+fn item_as(
+    alloc: Global,
+    scratch: &mut Scratch,
+    kind: &PathKind,
+    text: &str,
+) -> Result<Item, ReadFault>
     requires { length text.now ≤ file_limit }
     ensures accepted { IfOk result (ReadsAs kind.now text.now) }
     ensures refused { IfErr result (λ fault. fault ≢ Memory → FailsAs kind.now text.now fault) }
@@ -90,7 +97,7 @@ fn item_as(alloc: Global, kind: &PathKind, text: &str) -> Result<Item, ReadFault
     match kind {
         PathKind::Config => config_item(alloc, text.as_bytes()),
         PathKind::Models => models_item(alloc, text),
-        PathKind::Module(_) => module_item(alloc, text),
+        PathKind::Module(_) => module_item(alloc, scratch, text),
     }
 }
 
@@ -105,13 +112,29 @@ fn item_as(alloc: Global, kind: &PathKind, text: &str) -> Result<Item, ReadFault
 ///
 /// The text of a Python file is copied; of the others nothing of the bytes is kept but names and strings. Linear in the path and
 /// the bytes, but for the hashes of names and for the sorting of the keys of each object of a configuration.
-#[tactic(auto, using(crate::proofs::Files::accepted, crate::proofs::Files::fits, crate::proofs::Files::misplaced, crate::proofs::Files::misread, crate::proofs::Files::unreadable))]
 pub fn read_file(alloc: Global, path: &str, bytes: &[u8]) -> Result<Item, ReadFault>
+    ensures accepted { IfOk result (Accepted path.now bytes.now) }
+    ensures fits { IfOk result (Fits path.now) }
+    ensures refused { IfErr result (λ fault. fault ≢ Memory → Refused path.now bytes.now fault) }
+{
+    let mut scratch = Scratch::new(alloc);
+    read_file_with(alloc, &mut scratch, path, bytes)
+}
+
+/// What `read_file` answers. The names of the Python files that were read before with the same scratch are shared where they
+/// come again.
+#[tactic(auto, using(crate::proofs::Files::accepted, crate::proofs::Files::fits, crate::proofs::Files::misplaced, crate::proofs::Files::misread, crate::proofs::Files::unreadable))]
+pub fn read_file_with(
+    alloc: Global,
+    scratch: &mut Scratch,
+    path: &str,
+    bytes: &[u8],
+) -> Result<Item, ReadFault>
     ensures accepted { IfOk result (Accepted path.now bytes.now) }
     ensures fits { IfOk result (Fits path.now) }
     ensures refused { IfErr result (λ fault. fault ≢ Memory → Refused path.now bytes.now fault) }
 {
     let kind = kind_at(alloc, path)?;
     let text = text_of(bytes)?;
-    item_as(alloc, &kind, text)
+    item_as(alloc, scratch, &kind, text)
 }

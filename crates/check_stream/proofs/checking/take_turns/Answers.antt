@@ -9,11 +9,11 @@ use Rattle.check_stream.specs.Turns.{Turns}
 use Rattle.check_stream.proofs.Steps.{spells_long}
 use Rattle.check_stream.proofs.Reached.{reached_first, reached_next}
 use Rattle.check_stream.proofs.Ended.{ended_last, ended_memory, ended_writing, TakesIn}
-use Rattle.check_stream.proofs.checking.check_call.Goals as goal
+use Rattle.check_stream.proofs.checking.take_turns.Goals as goal
 
 pub loop-lines-init : goal.loop-lines-init
 loop-lines-init g c = record {
-  reached = reached_first (g.S.Source.left c.args.source.now) (g.K.Sink.held c.args.sink.now) c.new-stream.result c.new-session.result c.new-stream.ensures c.new-session.ensures;
+  reached = reached_first (g.S.Source.left c.args.source.now) (g.K.Sink.held c.args.sink.now) c.new-stream.result c.args.session.now c.new-stream.ensures c.requires;
   source_never_falls = omega arith;
   sink_never_falls = omega arith;
 }

@@ -1,6 +1,6 @@
 use Rattle.std.proofs.Common.{◌-◌, ◌≤◌, ◌^◌}
 use Rattle.check_stream.proofs.Reached.{Reached}
-use Rattle.check_stream.proofs.checking.check_call.Given as goal
+use Rattle.check_stream.proofs.checking.take_turns.Given as goal
 
 abbrev pub invariant-loop-lines : goal.invariant-loop-lines
 invariant-loop-lines g l = record {
