@@ -49,19 +49,21 @@ refused_edit before journal now has_refused edit fault path line come_to is foun
 
 -- ---- a file that is put
 
-pub puts_misread : (before come_to : Progress) (path shown file line : Bytes) (fault : ReadFault) → shown ≡ path → (fault ≢ read_faults.Memory → Refused shown file fault)
-    → Refuses (fault ≢ read_faults.Memory) (misread_line path fault) line before come_to → Puts before path file line come_to
-puts_misread before come_to path shown file line fault shown_is found refuses =
+pub puts_misread : (before start come_to : Progress) (path shown file line : Bytes) (fault : ReadFault) → start ≡ before → shown ≡ path → (fault ≢ read_faults.Memory → Refused shown file fault)
+    → Refuses (fault ≢ read_faults.Memory) (misread_line path fault) line start come_to → Puts before path file line come_to
+puts_misread before start come_to path shown file line fault is shown_is found refuses =
     let cause : Refused path file fault = subst (λ (p : Bytes). Refused p file fault) shown_is (found refuses.told) in
-    subst (λ (l : Bytes). Puts before path file l come_to) (sym refuses.line_is)
-    (subst (λ (p : Progress). Puts before path file (misread_line path fault) p) (sym refuses.come_to_is) (misread fault cause))
+    subst (λ (p : Progress). Puts p path file line come_to) is
+    (subst (λ (l : Bytes). Puts start path file l come_to) (sym refuses.line_is)
+    (subst (λ (p : Progress). Puts start path file (misread_line path fault) p) (sym refuses.come_to_is) (misread fault cause)))
 
-pub puts_read : (before come_to : Progress) (path shown copied file line : Bytes) (of : Item) (item : Arc Item Global) (len : ℕ) → shown ≡ path → copied ≡ path → arc_value item ≡ of → len ≡ length file
-    → Accepted shown file of → Edits before (edits.Put copied item len) line come_to → Puts before path file line come_to
-puts_read before come_to path shown copied file line of item len shown_is copied_is item_is len_is accepted done =
-    read item line come_to
+pub puts_read : (before start come_to : Progress) (path shown copied file line : Bytes) (of : Item) (item : Arc Item Global) (len : ℕ) → start ≡ before → shown ≡ path → copied ≡ path → arc_value item ≡ of → len ≡ length file
+    → Accepted shown file of → Edits start (edits.Put copied item len) line come_to → Puts before path file line come_to
+puts_read before start come_to path shown copied file line of item len is shown_is copied_is item_is len_is accepted done =
+    subst (λ (p : Progress). Puts p path file line come_to) is
+    (read item line come_to
     (subst (λ (p : Bytes). Accepted p file (arc_value item)) shown_is (subst (λ (i : Item). Accepted shown file i) (sym item_is) accepted))
-    (subst (λ (p : Bytes). Edits before (edits.Put p item (length file)) line come_to) copied_is (subst (λ (n : ℕ). Edits before (edits.Put copied item n) line come_to) len_is done))
+    (subst (λ (p : Bytes). Edits start (edits.Put p item (length file)) line come_to) copied_is (subst (λ (n : ℕ). Edits start (edits.Put copied item n) line come_to) len_is done)))
 
 -- ---- the answer at the end
 
