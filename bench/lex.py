@@ -14,7 +14,7 @@ import sys
 import tokenize
 
 sys.path.insert(0, os.path.join(os.path.dirname(os.path.abspath(__file__)), "..", "tests"))
-from timing import best, dump  # noqa: E402
+from timing import dump, least  # noqa: E402
 from tokens import library, source_of  # noqa: E402
 
 MEBIBYTE = 1 << 20
@@ -53,9 +53,9 @@ def main():
         for _ in tokenize.generate_tokens(io.StringIO(once.decode()).readline):
             pass
 
-    ours = best(lambda: lex(once), resource.RUSAGE_CHILDREN, 3)
-    doubled = best(lambda: lex(twice), resource.RUSAGE_CHILDREN, 3)
-    cpython = best(theirs, resource.RUSAGE_SELF, 1)
+    ours, doubled, cpython = least(
+        ((lambda: lex(once), resource.RUSAGE_CHILDREN), (lambda: lex(twice), resource.RUSAGE_CHILDREN), (theirs, resource.RUSAGE_SELF)), 3
+    )
     print(f"lex: {len(once) / MEBIBYTE:.1f} MiB in {ours:.3f} s, {len(once) / MEBIBYTE / ours:.1f} MiB a second")
     print(f"lex: CPython's tokenize {cpython:.2f} s, {cpython / ours:.1f} times as long")
     print(f"lex: twice the text takes {doubled / ours:.2f} times as long")

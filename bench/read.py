@@ -3,8 +3,9 @@
 
 Every file that is accepted is put once, and then functions and classes of the library's top levels, each as a file of its own, until there are
 5 MiB. Prints the ratio of the times (the aim is a tenth, at most a fifth), how the time grows when all is put twice (at most 2.2 times),
-and how much memory a stream takes that puts one file again and again, beside one that puts it once. Times are processor seconds, of ours the best
-of three runs; they have the start of the process and the reading of standard input in them.
+and how much memory a stream takes that puts one file again and again, beside one that puts it once. Times are processor seconds, the least of
+five runs of each, which take turns, so that what else the machine does meets all of them alike; ours have the start of the process and the
+reading of standard input in them.
 """
 
 import ast
@@ -16,7 +17,7 @@ import warnings
 
 sys.path.insert(0, os.path.join(os.path.dirname(os.path.abspath(__file__)), "..", "tests"))
 from real_python import files, texts_of  # noqa: E402
-from timing import best, program  # noqa: E402
+from timing import least, program  # noqa: E402
 
 MEBIBYTE = 1 << 20
 
@@ -81,9 +82,9 @@ def main():
         if not all(line.startswith(b"edit ") for line in lines[:-2]):
             sys.exit("read: a text is refused")
 
-    one = best(lambda: ours(once), resource.RUSAGE_CHILDREN, 3)
-    two = best(lambda: ours(twice), resource.RUSAGE_CHILDREN, 3)
-    cpython = best(theirs, resource.RUSAGE_SELF, 1)
+    one, two, cpython = least(
+        ((lambda: ours(once), resource.RUSAGE_CHILDREN), (lambda: ours(twice), resource.RUSAGE_CHILDREN), (theirs, resource.RUSAGE_SELF)), 5
+    )
     print(f"read: {total / MEBIBYTE:.1f} MiB in {len(texts)} texts in {one:.3f} s, {total / MEBIBYTE / one:.1f} MiB a second")
     print(f"read: CPython's ast.parse {cpython:.2f} s, so check takes 1/{cpython / one:.1f} of it")
     print(f"read: all put twice takes {two / one:.2f} times as long")

@@ -17,12 +17,20 @@ def dump():
     return program("dump")
 
 
+def taken(run, whose):
+    """The processor time of a run, in seconds, in this process or in its children."""
+    before = resource.getrusage(whose)
+    run()
+    after = resource.getrusage(whose)
+    return after.ru_utime - before.ru_utime + after.ru_stime - before.ru_stime
+
+
 def best(run, whose, times):
     """The least processor time of some runs, in seconds, in this process or in its children."""
-    taken = []
-    for _ in range(times):
-        before = resource.getrusage(whose)
-        run()
-        after = resource.getrusage(whose)
-        taken.append(after.ru_utime - before.ru_utime + after.ru_stime - before.ru_stime)
-    return min(taken)
+    return min(taken(run, whose) for _ in range(times))
+
+
+def least(runs, times):
+    """The least processor time of each of several runs, in seconds, where they take turns so many times."""
+    rounds = [[taken(run, whose) for run, whose in runs] for _ in range(times)]
+    return [min(each) for each in zip(*rounds)]
