@@ -1,6 +1,7 @@
 -- One turn of each loop over a list.
-use Rattle.std.proofs.Common.{◌≡◌, ℕ, zero, suc, ◌+◌, ◌-◌, ◌*◌, ◌<◌, ◌≤◌, Bool, true, false, not, cond, eqb, List, [], ◌∷◌, ◌++◌, length, drop, get_or, Option, Some, None, Result, Ok, Err, refl, sym, ap, ◌∙◌, append_assoc, append-nil, arith}
+use Rattle.std.proofs.Common.{◌≡◌, ℕ, zero, suc, ◌+◌, ◌-◌, ◌*◌, ◌<◌, ◌≤◌, Bool, true, false, not, ◌||◌, ◌&&◌, cond, eqb, List, [], ◌∷◌, ◌++◌, length, take, drop, get_or, Option, Some, None, Result, Ok, Err, refl, sym, ap, ◌∙◌, append_assoc, append-nil, arith}
 use Rattle.std.specs.Option.{SomeIff, option_map}
+use Rattle.std.specs.List.{list_any}
 use Rattle.std.specs.Char.{digit_value}
 use Rattle.std.proofs.Math.Utf8.{scalar}
 use Rattle.std.proofs.lemmas.Bool.{ne_eqb, eq-eqb}
@@ -128,6 +129,46 @@ pub body_turn : (k : StringKind) (rest : List ℕ) (len n : ℕ) → 0 < length 
 unfolding further
 body_turn k rest len n l e i p h =
     sym (map_map len n (body_len k (drop n rest))) ∙ ap (λ r. option_map (λ m. len + m) r) (sym (body_next k rest n l e i p h))
+
+-- a character that is neither the quote nor a backslash, in a body that may have line ends, is an item
+goes-on : (e : Bool) → cond {A = Option ℕ} (e && not true) None (Some 1) ≡ Some 1
+goes-on true = refl
+goes-on false = refl
+
+item-alone : (k : StringKind) (c : ℕ) (cs : List ℕ) → k.triple ≡ true → eqb c 92 ≡ false → item_len k c cs ≡ Some 1
+item-alone k c [] t b = rw (b, t) (goes-on (eqb c 10))
+item-alone k c (d ∷ ds) t b = rw (b, t) (goes-on (eqb c 10))
+
+or-first : (a b : Bool) → (a || b) ≡ false → a ≡ false
+or-first true b h = h
+or-first false b h = refl
+
+or-second : (a b : Bool) → (a || b) ≡ false → b ≡ false
+or-second true b h = absurd (cc)
+or-second false b h = h
+
+run-is : (k : StringKind) (n : ℕ) (cs : List ℕ) → k.triple ≡ true → n ≤ length cs → list_any (λ c. (eqb c k.quote) || (eqb c 92)) (take n cs) ≡ false
+    → body_len k cs ≡ option_map (λ m. n + m) (body_len k (drop n cs))
+run-is k zero [] t l a = refl
+run-is k zero (c ∷ cs) t l a = map_none (body_len_past k (c ∷ cs) 0)
+run-is k (suc n) [] t l a = absurd (omega arith)
+run-is k (suc n) (c ∷ cs) t l a =
+    let here : ((eqb c k.quote) || (eqb c 92)) ≡ false = or-first ((eqb c k.quote) || (eqb c 92)) (list_any (λ d. (eqb d k.quote) || (eqb d 92)) (take n cs)) a in
+    let more : list_any (λ d. (eqb d k.quote) || (eqb d 92)) (take n cs) ≡ false = or-second ((eqb c k.quote) || (eqb c 92)) (list_any (λ d. (eqb d k.quote) || (eqb d 92)) (take n cs)) a in
+    let q : eqb c k.quote ≡ false = or-first (eqb c k.quote) (eqb c 92) here in
+    let b : eqb c 92 ≡ false = or-second (eqb c k.quote) (eqb c 92) here in
+    let w : n ≤ length cs = omega (arith, l) in
+    let s : 1 + n ≡ suc n = omega arith in
+    rw (q, item-alone k c cs t b, run-is k n cs t w more, map_map 1 n (body_len k (drop n cs)), s) refl
+
+-- a run of such characters
+pub body_run : (k : StringKind) (cs run rest : List ℕ) → k.triple ≡ true → 16 ≤ length cs → run ≡ take 16 cs → rest ≡ drop 16 cs → list_any (λ c. (eqb c k.quote) || (eqb c 92)) run ≡ false
+    → body_len k cs ≡ option_map (λ m. 16 + m) (body_len k rest)
+body_run k cs run rest t l r s a = rw s (run-is k 16 cs t l (rw (sym r) a))
+
+pub further_run : (len n : ℕ) (r s : Option ℕ) → r ≡ option_map (λ m. n + m) s → further (len + n) s ≡ further len r
+unfolding further
+further_run len n r s e = sym (map_map len n s) ∙ ap (λ x. option_map (λ m. len + m) x) (sym e)
 
 pub body_stuck : (k : StringKind) (rest : List ℕ) → 0 < length rest → closes k rest ≡ false → item_len k (get_or rest 0 0) (drop 1 rest) ≡ None → body_len k rest ≡ None
 body_stuck k [] l e i = refl

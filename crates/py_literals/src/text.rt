@@ -1,6 +1,11 @@
-ghost use Rattle.std.specs.Prelude.{◌≡◌, ◌+◌, ◌<◌, ◌≤◌, IfSome, false, length, ℕ, List};
+ghost use Rattle.std.specs.Prelude.{◌≡◌, ◌+◌, ◌<◌, ◌≤◌, ◌==◌, ◌||◌, IfSome, false, length, drop, ℕ, List};
+ghost use Rattle.std.specs.List.{list_any};
+ghost use Rattle.std.specs.Option.{option_map};
 ghost use Rattle.py_literals.specs.declared.text.StringKind.{StringKind};
 ghost use Rattle.py_literals.specs.Text.{is_quote, lower, one_letter, beside_raw, two_letters, two_quotes, opened, opening, closes, item_len, body_len, EndsFirst};
+
+/// So many characters of a long body are looked at together.
+const RUN: usize = 16;
 
 /// What the letters before a string's quotes say.
 #[derive(Clone, Copy, Debug, PartialEq, Eq, Drop)]
@@ -170,26 +175,65 @@ fn item_taken(kind: &StringKind, c: char, rest: &[char]) -> Option<usize>
     }
 }
 
+/// Whether one of the characters is the quote or a backslash. It looks at each, which is faster than to stop at the first.
+fn has_mark(quote: char, chars: &[char]) -> bool
+    ensures { result ≡ list_any (λ c. (c == quote) || (c == 92)) chars.now }
+{
+    let mut found = false;
+    for c in chars {
+        found |= (*c == quote) | (*c == '\\');
+    }
+    found
+}
+
+/// What stands behind the next `RUN` characters of a triple-quoted body, where each of these is an item by itself.
+#[tactic(auto, using(crate::proofs::Turns::body_run))]
+fn behind_run<'a>(kind: &StringKind, chars: &'a [char]) -> Option<&'a [char]>
+    ensures within { IfSome result (λ rest. 16 + length rest.now ≡ length chars.now) }
+    ensures same { IfSome result (λ rest. body_len kind.now chars.now ≡ option_map (λ m. 16 + m) (body_len kind.now rest.now)) }
+{
+    if !kind.triple || chars.len() < RUN {
+        return None;
+    }
+    let (run, rest) = chars.split_at(RUN);
+    if has_mark(kind.quote, run) {
+        None
+    } else {
+        Some(rest)
+    }
+}
+
 /// How many characters the body of a string has that begins here, behind the opening quotes: up to the
 /// first closing quotes that no backslash escapes. None, where the string has no end: the text ends
 /// before, or a line does that no backslash takes, in a string that isn't triple-quoted.
 ///
 /// Also in a raw string a backslash takes the next character with it. Python Language Reference, 2.4.1.
 /// Linear in the length of the body.
-#[tactic(auto, using(crate::proofs::Turns::body_turn, crate::proofs::Turns::body_stuck, crate::proofs::Turns::body_closed, crate::proofs::Turns::further_start, crate::proofs::Turns::further_some, crate::proofs::Turns::further_none, std::proofs::lemmas::Grind::common_steps))]
+#[tactic(auto, using(crate::proofs::Turns::body_turn, crate::proofs::Turns::body_stuck, crate::proofs::Turns::body_closed, crate::proofs::Turns::further_run, crate::proofs::Turns::further_start, crate::proofs::Turns::further_some, crate::proofs::Turns::further_none, std::proofs::lemmas::Grind::common_steps))]
 pub fn string_body(kind: &StringKind, chars: &[char]) -> Option<usize>
     ensures exact { result ≡ body_len kind.now chars.now }
     ensures within { IfSome result (λ n. n < length chars.now) }
 {
     let mut rest = chars;
     let mut len = 0;
+    // how many characters are looked at alone before the next run
+    let mut alone: usize = 0;
     'items: while let [c, after @ ..] = rest {
+        if alone == 0 {
+            if let Some(behind) = behind_run(kind, rest) {
+                rest = behind;
+                len += RUN;
+                continue 'items;
+            }
+            alone = RUN;
+        }
         if has_closing(kind, rest) {
             return Some(len);
         }
         let taken = item_taken(kind, *c, after)?;
         rest = &rest[taken..];
         len += taken;
+        alone = alone.saturating_sub(taken);
     }
     None
 }
