@@ -14,5 +14,7 @@ pub mod Margin
 pub mod Formatted
 pub mod Pieces
 pub mod Runs
+pub mod Quick
+pub mod Gap
 pub mod Layout
 pub mod Laws

@@ -40,7 +40,7 @@ fn join(state: &mut State, rest: &[char]) -> Piece
 }
 
 /// Opens or closes the bracket, which stands at this place. In a field none counts.
-fn bracket(at: Pos, state: &mut State, sign: char) -> Result<(), Memory>
+pub fn bracket(at: Pos, state: &mut State, sign: char) -> Result<(), Memory>
     ensures { OnOk result (state.new ≡ bracketed at state.old sign) }
 {
     match state.mode {
@@ -75,7 +75,8 @@ fn operator(
     }
 }
 
-fn next_is_digit(rest: &[char]) -> bool
+/// Whether a digit is next.
+pub fn next_is_digit(rest: &[char]) -> bool
     ensures { result ≡ next_is is_digit rest.now }
 {
     match rest {

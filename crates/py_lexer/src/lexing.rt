@@ -1,29 +1,27 @@
 //! The tokens of a text, piece by piece.
 
-ghost use Rattle.std.specs.Prelude.{◌≡◌, ◌∷◌, ◌≤◌, ◌<◌, ◌+◌, ◌^◌, length, take, drop, chars, IfOk, IfErr, IfSome, []};
+ghost use Rattle.std.specs.Prelude.{◌≡◌, ◌∷◌, ◌≤◌, ◌<◌, ◌+◌, ◌^◌, length, take, drop, chars, IfOk, IfErr, []};
 ghost use Rattle.std.specs.List.{list_any};
 ghost use Rattle.py_literals.specs.Place.{after};
-ghost use Rattle.py_literals.specs.declared.place.Pos.{Pos};
-ghost use Rattle.py_lexer.specs.Chars.{is_line_end, is_white};
-ghost use Rattle.py_lexer.specs.Front.{front_of, Passed};
-ghost use Rattle.py_lexer.specs.Words.{next_is};
+ghost use Rattle.py_lexer.specs.Chars.{is_line_end};
+ghost use Rattle.py_lexer.specs.Front.{front_of};
 ghost use Rattle.py_lexer.specs.Pieces.{finish, piece};
 ghost use Rattle.py_lexer.specs.Runs.{Tokens, first_place, start, HasTokens, IsFaultOf, IsRefusedBy};
 
-use crate::chars::is_white;
 use crate::fstring::{field_end, literal};
+use crate::gap::behind_gap;
 use crate::inside::inside;
 use crate::margin::{indentation, margin};
 use crate::piece::Piece;
+use crate::quick::{push_line_end, push_quick};
 use crate::scratch::Scratch;
 use crate::source::source_chars;
 use crate::spellings::Spellings;
-use crate::stack::{Blocks, Brackets};
 use crate::state::{Mode, State};
 use crate::token::{Kind, LexError, LexKind, Token, Value};
 use py_literals::place::{Pos, after};
 use rv_names::Memory;
-use std::alloc::Global;
+use std::alloc::{AllocError, Global};
 use std::mem;
 
 /// About how many characters a token has, with the white space and the comments before it.
@@ -88,26 +86,6 @@ fn parted(chars: &[char], len: usize) -> (&[char], &[char])
     chars.split_at(len.min(chars.len()))
 }
 
-/// What follows one blank between two tokens, where such a blank stands at the front. Most pieces without a token are that.
-#[tactic(auto, using(crate::proofs::Blanks::blank_passed))]
-fn behind_blank<'a>(state: &State, chars: &'a [char]) -> Option<&'a [char]>
-    ensures rest { IfSome result (λ rest. rest.now ≡ drop 1 chars.now) }
-    ensures blank { IfSome result (λ rest. take 1 chars.now ≡ 32 ∷ []) }
-    ensures passed { IfSome result (λ rest. (at : Pos) → Passed 1 state.now ≡ piece at state.now chars.now) }
-{
-    if state.mode != Mode::Inside {
-        return None;
-    }
-    let [' ', rest @ ..] = chars else {
-        return None;
-    };
-    if is_white_next(rest) {
-        None
-    } else {
-        Some(rest)
-    }
-}
-
 /// Whether one of the characters ends a line. Of many it looks at each, which is faster than to stop at the first.
 fn has_line_end(chars: &[char]) -> bool
     ensures { result ≡ list_any is_line_end chars.now }
@@ -139,17 +117,30 @@ fn moved(at: Pos, chars: &[char]) -> Pos
     }
 }
 
-fn is_white_next(chars: &[char]) -> bool
-    ensures { result ≡ next_is is_white chars.now }
+/// The place behind a line end.
+fn next_line(at: Pos) -> Pos
+    requires { at.line + 1 < 2 ^ 32 }
+    ensures { result ≡ after at (10 ∷ []) }
 {
-    match chars {
-        [] => false,
-        [c, ..] => is_white(*c),
+    Pos {
+        line: at.line + 1,
+        col: 1,
     }
+}
+
+/// No tokens, with room for those of a text of so many characters.
+fn no_tokens(room: Vec<Token>, len: usize) -> Result<Vec<Token>, AllocError>
+    ensures { IfOk result (λ v. v.items ≡ []) }
+{
+    let mut tokens = room;
+    tokens.clear();
+    tokens.reserve(len / TOKEN_LEN)?;
+    Ok(tokens)
 }
 
 fn tokens_of(
     alloc: Global,
+    room: Vec<Token>,
     spellings: &mut Spellings,
     text: &[char],
 ) -> Result<Vec<Token>, LexError>
@@ -157,19 +148,27 @@ fn tokens_of(
     ensures tokens { IfOk result (λ v. Tokens first_place start text.now v.items) }
     ensures fault { IfErr result (IsFaultOf text.now) }
 {
-    let mut tokens = Vec::with_capacity(alloc, text.len() / TOKEN_LEN)?;
-    let mut state = State {
-        mode: Mode::LineStart,
-        brackets: Brackets::new(alloc),
-        blocks: Blocks::new(alloc),
-        white: None,
-    };
+    let mut tokens = no_tokens(room, text.len())?;
+    let mut state = State::new(alloc);
     let mut at = Pos { line: 1, col: 1 };
     let mut rest = text;
     'pieces: loop {
-        if let Some(behind) = behind_blank(&state, rest) {
-            at.col += 1;
+        if let Some(behind) = behind_gap(&mut state, rest) {
+            at.col += (rest.len() - behind.len()) as u32;
             rest = behind;
+            continue 'pieces;
+        }
+        let quick = push_quick(spellings, at, &mut state, rest, &mut tokens)?;
+        if quick > 0 {
+            at.col += quick as u32;
+            let (_, behind) = rest.split_at(quick);
+            rest = behind;
+            continue 'pieces;
+        }
+        let ended = push_line_end(at, &mut state, rest, &mut tokens)?;
+        if ended {
+            at = next_line(at);
+            rest = parted(rest, 1).1;
             continue 'pieces;
         }
         match piece(alloc, spellings, at, &mut state, rest)? {
@@ -226,7 +225,8 @@ pub fn lex_with(alloc: Global, scratch: &mut Scratch, text: &str) -> Result<Vec<
     let room = mem::replace(&mut scratch.chars, Vec::new(alloc));
     let chars = source_chars(alloc, room, text)?;
     scratch.spellings.begin(chars.len())?;
-    let tokens = tokens_of(alloc, &mut scratch.spellings, &chars);
+    let room = mem::replace(&mut scratch.tokens, Vec::new(alloc));
+    let tokens = tokens_of(alloc, room, &mut scratch.spellings, &chars);
     scratch.chars = chars;
     tokens
 }

@@ -11,6 +11,7 @@
 //! * `margin`: blank lines and indentation;
 //! * `inside`: what stands inside a logical line, by its first character;
 //! * `words`, `keywords`, `operators`, `strings`, `fstring`: that, by class;
+//! * `quick`: most tokens, which are pushed at once, and `gap`: most of what stands between them, which is passed at once;
 //! * `spellings`: what words and texts are spelled as, and the names that were spelled so before;
 //! * `chars`: the classes of characters.
 #![tactic(auto)]
@@ -18,6 +19,7 @@
 mod chars;
 mod form;
 mod fstring;
+mod gap;
 mod inside;
 mod keywords;
 mod laws;
@@ -25,6 +27,7 @@ mod lexing;
 mod margin;
 mod operators;
 mod piece;
+mod quick;
 mod scratch;
 mod source;
 mod spellings;

@@ -13,7 +13,7 @@ pub struct Operator {
 }
 
 /// The operator of one character.
-fn sign(c: char) -> Option<Kind>
+pub fn sign(c: char) -> Option<Kind>
     ensures { result ≡ sign c }
 {
     match c {
@@ -131,7 +131,7 @@ fn operator_or(len: usize, kind: Option<Kind>, other: Option<Operator>) -> Optio
 }
 
 /// Whether an operator of several characters may go on with this one.
-fn may_go_on(second: char) -> bool
+pub fn may_go_on(second: char) -> bool
     ensures { result ≡ may_go_on second }
 {
     matches!(second, '=' | '*' | '/' | '<' | '>' | '.')

@@ -1,16 +1,19 @@
 //! What is kept from one text to the next.
 
 use crate::spellings::Spellings;
+use crate::token::Token;
 use std::alloc::Global;
 
-/// What is kept from one text to the next while texts are read: room for characters, and the names that were read lately.
-/// No answer depends on it.
+/// What is kept from one text to the next while texts are read: room for characters and for tokens, and the names that were
+/// read lately. No answer depends on it.
 ///
-/// It keeps at most four bytes for each byte of the longest text, and 2,048 names.
+/// It keeps at most four bytes for each byte of the longest text, or eight where a text has characters outside ASCII, the
+/// room of the tokens that were handed back last, and 8,192 names.
 #[derive(Debug, Drop)]
 pub struct Scratch {
     pub(crate) chars: Vec<char>,
     pub(crate) spellings: Spellings,
+    pub(crate) tokens: Vec<Token>,
 }
 
 impl Scratch {
@@ -19,6 +22,14 @@ impl Scratch {
         Scratch {
             chars: Vec::new(alloc),
             spellings: Spellings::new(alloc),
+            tokens: Vec::new(alloc),
         }
+    }
+
+    /// Takes back the tokens of a text that is done with: it drops them, and keeps their room for the next text.
+    pub fn keep(&mut self, tokens: Vec<Token>) {
+        let mut tokens = tokens;
+        tokens.clear();
+        self.tokens = tokens;
     }
 }

@@ -8,7 +8,7 @@ use std::alloc::{AllocError, Global};
 use std::mem::replace;
 
 /// The most names that are kept: a power of two.
-const MOST_NAMES: usize = 2048;
+const MOST_NAMES: usize = 8192;
 
 /// For how many names a first text of so many characters has places: a power of two.
 fn places_for(len: usize) -> usize {
@@ -21,13 +21,18 @@ fn places_for(len: usize) -> usize {
     }
 }
 
-/// A number by which most names differ.
-fn mixed(text: &[char]) -> usize {
+/// The number of some characters, with one more. Most names differ by their numbers.
+pub fn with_char(number: u32, c: char) -> u32 {
+    number.wrapping_mul(31).wrapping_add(c as u32)
+}
+
+/// The number of the characters.
+fn mixed(text: &[char]) -> u32 {
     let mut number: u32 = 0;
     for c in text {
-        number = number.wrapping_mul(31).wrapping_add(*c as u32);
+        number = with_char(number, *c);
     }
-    (number ^ (number >> 16)) as usize
+    number
 }
 
 /// Whether the characters are this word, and all of ASCII.
@@ -139,7 +144,12 @@ impl Names {
 
     /// The place of the characters.
     pub fn place(&self, text: &[char]) -> usize {
-        mixed(text) & self.last.len().saturating_sub(1)
+        self.place_of(mixed(text))
+    }
+
+    /// The place of characters of this number.
+    pub fn place_of(&self, number: u32) -> usize {
+        (number ^ (number >> 16)) as usize & self.last.len().saturating_sub(1)
     }
 
     /// The last name at the place.

@@ -1,7 +1,11 @@
 //! What is open where a text is read.
 
+ghost use Rattle.std.specs.Prelude.{◌≡◌};
+ghost use Rattle.py_lexer.specs.Runs.{start};
+
 use crate::stack::{Blocks, Brackets};
 use py_literals::text::StringKind;
+use std::alloc::Global;
 
 /// Where in a text its next character stands.
 #[derive(Clone, Copy, Debug, PartialEq, Eq)]
@@ -35,4 +39,18 @@ pub struct State {
     pub blocks: Blocks,
     /// The kind of leading white space that was seen so far.
     pub white: Option<White>,
+}
+
+impl State {
+    /// Before the first character of a text.
+    pub fn new(alloc: Global) -> State
+        ensures { result ≡ start }
+    {
+        State {
+            mode: Mode::LineStart,
+            brackets: Brackets::new(alloc),
+            blocks: Blocks::new(alloc),
+            white: None,
+        }
+    }
 }

@@ -40,7 +40,7 @@ fn tokens_text(alloc: Global, text: &str) -> Result<String, LexError> {
     written(alloc, &lex(alloc, text)?)
 }
 
-const TOKENS: [(&str, &str); 62] = [
+const TOKENS: [(&str, &str); 63] = [
     ("", ""),
     ("\n \n\t# a\n   # b", ""),
     ("\u{feff}x", "1:1 Name x; 1:2 Newline"),
@@ -247,6 +247,10 @@ const TOKENS: [(&str, &str); 62] = [
         "1:1 FStringStart; 1:3 FieldOpen; 1:4 Name r; 1:5 FieldClose; 1:6 FieldOpen; 1:7 Name b; 1:8 FieldClose; 1:9 FStringEnd; 1:10 Newline",
     ),
     ("a\x0c\tb", "1:1 Name a; 1:4 Name b; 1:5 Newline"),
+    (
+        "rb.rb rb'r' r.r(r)r'r' is r..r .5->\u{e9} \u{e9}[r]",
+        "1:1 Name rb; 1:3 Dot; 1:4 Name rb; 1:7 Bytes; 1:13 Name r; 1:14 Dot; 1:15 Name r; 1:16 LeftParen; 1:17 Name r; 1:18 RightParen; 1:19 Text \"r\"; 1:24 Is; 1:27 Name r; 1:28 Dot; 1:29 Dot; 1:30 Name r; 1:32 Float; 1:34 Arrow; 1:36 Name \u{e9}; 1:38 Name \u{e9}; 1:39 LeftBracket; 1:40 Name r; 1:41 RightBracket; 1:42 Newline",
+    ),
 ];
 
 #[test]

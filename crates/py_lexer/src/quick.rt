@@ -1,0 +1,232 @@
+//! Most tokens inside a logical line: they are pushed at once, without a `Piece` of their own.
+
+ghost use Rattle.std.specs.Prelude.{◌≡◌, ◌∷◌, ◌++◌, ◌≤◌, ◌<◌, [], length, take, false, None, IfOk, OnOk, IsTrue};
+ghost use Rattle.std.specs.List.{prefix_len, list_any};
+ghost use Rattle.rv_names.specs.Identifier.{is_identifier_continue};
+ghost use Rattle.py_lexer.specs.declared.state.State.{State};
+ghost use Rattle.py_lexer.specs.declared.token.Value.TheVariants.{Nothing};
+ghost use Rattle.py_lexer.specs.Chars.{is_line_end, is_quote};
+ghost use Rattle.py_lexer.specs.Front.{front_of_lexeme};
+ghost use Rattle.py_lexer.specs.Words.{word_by, word_len, word};
+ghost use Rattle.py_lexer.specs.Inside.{operator};
+ghost use Rattle.py_lexer.specs.Pieces.{piece};
+ghost use Rattle.py_lexer.specs.Runs.{token};
+ghost use Rattle.py_lexer.specs.Quick.{IsPushed, has_quote_near};
+
+use crate::chars::{Class, class_of, may_continue_name};
+use crate::inside::{bracket, next_is_digit};
+use crate::keywords::keyword_of;
+use crate::operators::{may_go_on, sign};
+use crate::spellings::{Spellings, is_spelled, with_char};
+use crate::state::{Mode, State};
+use crate::token::{Kind, Token, Value};
+use py_literals::place::Pos;
+use rv_names::Memory;
+
+/// The characters at the front that may continue a name.
+#[derive(Clone, Copy, Debug, PartialEq, Eq)]
+struct NameFront {
+    len: usize,
+    /// The number of the name, as `Names::place_of` takes it.
+    number: u32,
+}
+
+/// Those behind the first character of a name.
+fn name_front(first: char, rest: &[char]) -> NameFront
+    ensures value { result.len ≡ prefix_len is_identifier_continue rest.now }
+    ensures within { result.len ≤ length rest.now }
+{
+    let mut len = 0;
+    let mut number = with_char(0, first);
+    for c in rest {
+        if !may_continue_name(*c) {
+            return NameFront { len, number };
+        }
+        len += 1;
+        number = with_char(number, *c);
+    }
+    NameFront { len, number }
+}
+
+fn is_quote(c: char) -> bool
+    ensures { result ≡ is_quote c }
+{
+    matches!(c, '"' | '\'')
+}
+
+/// Whether one of the next two characters is a quote, or isn't there: where not, a letter before them begins no string.
+fn has_quote_near(rest: &[char]) -> bool
+    ensures { result ≡ has_quote_near rest.now }
+{
+    match rest {
+        [second, third, ..] => is_quote(*second) || is_quote(*third),
+        _ => true,
+    }
+}
+
+/// Pushes the name, if it was read lately: whether it was.
+fn push_name(
+    spellings: &Spellings,
+    number: u32,
+    at: Pos,
+    text: &[char],
+    tokens: &mut Vec<Token>,
+) -> Result<bool, Memory>
+    ensures none { IfOk result (λ pushed. pushed ≡ false → tokens.new.items ≡ tokens.old.items) }
+    ensures some { IfOk result (λ pushed. IsTrue pushed → (s : State) → IsPushed at (front_of_lexeme (word_by (length text.now) text.now None) s) (length text.now) s tokens.old.items tokens.new.items) }
+{
+    let Some(name) = spellings.names.last(spellings.names.place_of(number)) else {
+        return Ok(false);
+    };
+    if !is_spelled(text, name.as_str()) {
+        return Ok(false);
+    }
+    let name = name.copy()?;
+    tokens.push(Token {
+        kind: Kind::Name,
+        value: Value::Name(name),
+        at,
+    })?;
+    Ok(true)
+}
+
+fn push_plain(kind: Kind, at: Pos, tokens: &mut Vec<Token>) -> Result<(), Memory>
+    ensures { OnOk result (tokens.new.items ≡ tokens.old.items ++ (token kind Nothing at ∷ [])) }
+{
+    tokens.push(Token {
+        kind,
+        value: Value::Nothing,
+        at,
+    })?;
+    Ok(())
+}
+
+/// Pushes the keyword, or the name that was read lately, that begins with a letter here: how many characters it has. Where
+/// a new name begins, it gives 0.
+fn push_word(
+    spellings: &Spellings,
+    at: Pos,
+    first: char,
+    rest: &[char],
+    chars: &[char],
+    tokens: &mut Vec<Token>,
+) -> Result<usize, Memory>
+    requires { chars.now ≡ first ∷ rest.now }
+    ensures none { IfOk result (λ len. len ≡ 0 → tokens.new.items ≡ tokens.old.items) }
+    ensures some { IfOk result (λ len. 0 < len → (s : State) → IsPushed at (front_of_lexeme (word chars.now) s) len s tokens.old.items tokens.new.items) }
+    ensures word { IfOk result (λ len. 0 < len → len ≡ word_len chars.now) }
+    ensures within { IfOk result (λ len. len ≤ length chars.now) }
+{
+    let front = name_front(first, rest);
+    let len = 1 + front.len;
+    let (text, _) = chars.split_at(len);
+    match keyword_of(text) {
+        Some(keyword) => {
+            push_plain(keyword, at, tokens)?;
+            Ok(len)
+        }
+        None => {
+            if push_name(spellings, front.number, at, text, tokens)? {
+                Ok(len)
+            } else {
+                Ok(0)
+            }
+        }
+    }
+}
+
+/// Pushes the operator of one character that begins here, if the character behind it tells that it ends there: how many
+/// characters it has, or 0.
+fn push_sign(
+    at: Pos,
+    state: &mut State,
+    first: char,
+    rest: &[char],
+    tokens: &mut Vec<Token>,
+) -> Result<usize, Memory>
+    ensures none { IfOk result (λ len. len ≡ 0 → (tokens.new.items ≡ tokens.old.items) × (state.new ≡ state.old)) }
+    ensures some { IfOk result (λ len. 0 < len → IsPushed at (operator at state.old first rest.now) len state.new tokens.old.items tokens.new.items) }
+    ensures one { IfOk result (λ len. len ≤ 1) }
+{
+    let [second, ..] = rest else {
+        return Ok(0);
+    };
+    if may_go_on(*second) {
+        return Ok(0);
+    }
+    match sign(first) {
+        None => Ok(0),
+        Some(kind) => {
+            bracket(at, state, first)?;
+            push_plain(kind, at, tokens)?;
+            Ok(1)
+        }
+    }
+}
+
+/// Pushes the token at the front, if that is a keyword, a name that was read lately, or an operator of one character, inside
+/// a logical line: how many characters it has. Where anything else stands there, it pushes nothing and gives 0.
+pub fn push_quick(
+    spellings: &Spellings,
+    at: Pos,
+    state: &mut State,
+    chars: &[char],
+    tokens: &mut Vec<Token>,
+) -> Result<usize, Memory>
+    ensures none { IfOk result (λ len. len ≡ 0 → (tokens.new.items ≡ tokens.old.items) × (state.new ≡ state.old)) }
+    ensures some { IfOk result (λ len. 0 < len → IsPushed at (piece at state.old chars.now) len state.new tokens.old.items tokens.new.items) }
+    ensures in_line { IfOk result (λ len. list_any is_line_end (take len chars.now) ≡ false) }
+    ensures within { IfOk result (λ len. len ≤ length chars.now) }
+{
+    if state.mode != Mode::Inside {
+        return Ok(0);
+    }
+    let [first, rest @ ..] = chars else {
+        return Ok(0);
+    };
+    match class_of(*first) {
+        Class::Letter => {
+            if has_quote_near(rest) {
+                Ok(0)
+            } else {
+                push_word(spellings, at, *first, rest, chars, tokens)
+            }
+        }
+        Class::Sign => push_sign(at, state, *first, rest, tokens),
+        Class::Dot => {
+            if next_is_digit(rest) {
+                Ok(0)
+            } else {
+                push_sign(at, state, *first, rest, tokens)
+            }
+        }
+        _ => Ok(0),
+    }
+}
+
+/// Pushes the end of a logical line, if a line end stands at the front and no bracket is open: whether it did.
+pub fn push_line_end(
+    at: Pos,
+    state: &mut State,
+    chars: &[char],
+    tokens: &mut Vec<Token>,
+) -> Result<bool, Memory>
+    ensures none { IfOk result (λ ended. ended ≡ false → (tokens.new.items ≡ tokens.old.items) × (state.new ≡ state.old)) }
+    ensures some { IfOk result (λ ended. IsTrue ended → IsPushed at (piece at state.old chars.now) 1 state.new tokens.old.items tokens.new.items) }
+    ensures line_end { IfOk result (λ ended. IsTrue ended → take 1 chars.now ≡ 10 ∷ []) }
+{
+    if state.mode != Mode::Inside {
+        return Ok(false);
+    }
+    let ['\n', ..] = chars else {
+        return Ok(false);
+    };
+    match state.brackets.innermost() {
+        Some(_) => Ok(false),
+        None => {
+            state.mode = Mode::LineStart;
+            push_plain(Kind::Newline, at, tokens)?;
+            Ok(true)
+        }
+    }
+}
