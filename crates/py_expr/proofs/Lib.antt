@@ -1,5 +1,7 @@
 pub mod Alone
+pub mod Ends
 pub mod Fronts
 pub mod Nestings
 pub mod OneAnswer
 pub mod Texts
+pub mod Marks

@@ -18,7 +18,7 @@ use crate::class::{
 use crate::inner::{closed_items_by, nested_by};
 use crate::parts::stands_expr;
 use crate::strings::as_strings;
-use crate::token::{Taken, leaf_token, make_leaf, mark, open, part_text_token, stands, text_token};
+use crate::token::{Taken, leaf_here, make_leaf, mark, open, part_text_token, stands, text_token};
 use phrases::{Stop, many, series};
 use py_ast::{Expr, Form, Pair, Part, Piece};
 use py_lexer::Token;
@@ -43,7 +43,7 @@ where
         [first, ..] => {
             let code = class_of(first);
             if begins_leaf(code) {
-                leaf_token(tokens)
+                leaf_here(tokens)
             } else if begins_string(code) {
                 strings_by(alloc, tokens, room, inner)
             } else if code == LEFT_PAREN {

@@ -1,8 +1,8 @@
 //! The classes of tokens, as numbers: what one token of lookahead tells.
 
-ghost use Rattle.std.specs.Prelude.{◌≡◌, ◌<◌, ◌∷◌, [], ℕ, false};
+ghost use Rattle.std.specs.Prelude.{◌≡◌, ◌<◌, ◌∷◌, [], ℕ, true, false};
 ghost use Rattle.phrases.specs.Sets.{has};
-ghost use Rattle.py_ast.specs.Kinds.{name_class, number_class, text_class, part_text_class, class};
+ghost use Rattle.py_ast.specs.Kinds.{name_class, number_class, text_class, part_text_class, class, code};
 ghost use Rattle.py_ast.specs.Tokens.{leaf_codes, unary_codes, level_codes, comparator_codes, name_codes};
 ghost use Rattle.py_ast.specs.Grammar.{string_first, atom_first, factor_first, expr_first, part_first, step_first, comparison_first, argument_first};
 
@@ -108,11 +108,20 @@ pub const TRUE: u8 = 17;
 
 pub const ELLIPSIS: u8 = 96;
 
+/// `super` is asked for by its length first, which most names don't have.
+#[tactic(auto, using(crate::proofs::Marks::other_length))]
 fn name_class(value: &Value) -> u8
     ensures { result ≡ name_class value.now }
 {
     match value {
-        Value::Name(name) => { if name.as_str() == "super" { 2 } else { 1 } }
+        Value::Name(name) => {
+            let text = name.as_str();
+            if text.len() == 5 && text == "super" {
+                2
+            } else {
+                1
+            }
+        }
         _ => 0,
     }
 }
@@ -144,59 +153,12 @@ fn part_text_class(value: &Value) -> u8
     }
 }
 
-/// The class of a token.
-pub fn class_of(token: &Token) -> u8
-    ensures { result ≡ class token.now }
+/// The class of an operator or a delimiter.
+fn operator_code(kind: Kind) -> u8
+    requires { 49 < code kind }
+    ensures { result ≡ code kind }
 {
-    match token.kind {
-        Kind::Newline => 5,
-        Kind::Indent => 6,
-        Kind::Dedent => 7,
-        Kind::Name => name_class(&token.value),
-        Kind::Number => number_class(&token.value),
-        Kind::Float => 8,
-        Kind::Text => text_class(&token.value),
-        Kind::Bytes => 9,
-        Kind::FStringStart => 10,
-        Kind::FStringText => part_text_class(&token.value),
-        Kind::FieldOpen => 12,
-        Kind::FieldClose => 13,
-        Kind::FStringEnd => 14,
-        Kind::False => 15,
-        Kind::None => 16,
-        Kind::True => 17,
-        Kind::And => 18,
-        Kind::As => 19,
-        Kind::Assert => 20,
-        Kind::Async => 21,
-        Kind::Await => 22,
-        Kind::Break => 23,
-        Kind::Class => 24,
-        Kind::Continue => 25,
-        Kind::Def => 26,
-        Kind::Del => 27,
-        Kind::Elif => 28,
-        Kind::Else => 29,
-        Kind::Except => 30,
-        Kind::Finally => 31,
-        Kind::For => 32,
-        Kind::From => 33,
-        Kind::Global => 34,
-        Kind::If => 35,
-        Kind::Import => 36,
-        Kind::In => 37,
-        Kind::Is => 38,
-        Kind::Lambda => 39,
-        Kind::Nonlocal => 40,
-        Kind::Not => 41,
-        Kind::Or => 42,
-        Kind::Pass => 43,
-        Kind::Raise => 44,
-        Kind::Return => 45,
-        Kind::Try => 46,
-        Kind::While => 47,
-        Kind::With => 48,
-        Kind::Yield => 49,
+    match kind {
         Kind::Plus => 50,
         Kind::Minus => 51,
         Kind::Star => 52,
@@ -244,7 +206,88 @@ pub fn class_of(token: &Token) -> u8
         Kind::LeftShiftEqual => 94,
         Kind::DoubleStarEqual => 95,
         Kind::Ellipsis => 96,
+        _ => 0,
     }
+}
+
+/// The class of a token of this kind where the kind alone makes it, and else 0.
+pub fn code_of(kind: Kind) -> u8
+    ensures { result ≡ code kind }
+{
+    match kind {
+        Kind::Newline => 5,
+        Kind::Indent => 6,
+        Kind::Dedent => 7,
+        Kind::Name => 0,
+        Kind::Number => 0,
+        Kind::Float => 8,
+        Kind::Text => 0,
+        Kind::Bytes => 9,
+        Kind::FStringStart => 10,
+        Kind::FStringText => 0,
+        Kind::FieldOpen => 12,
+        Kind::FieldClose => 13,
+        Kind::FStringEnd => 14,
+        Kind::False => 15,
+        Kind::None => 16,
+        Kind::True => 17,
+        Kind::And => 18,
+        Kind::As => 19,
+        Kind::Assert => 20,
+        Kind::Async => 21,
+        Kind::Await => 22,
+        Kind::Break => 23,
+        Kind::Class => 24,
+        Kind::Continue => 25,
+        Kind::Def => 26,
+        Kind::Del => 27,
+        Kind::Elif => 28,
+        Kind::Else => 29,
+        Kind::Except => 30,
+        Kind::Finally => 31,
+        Kind::For => 32,
+        Kind::From => 33,
+        Kind::Global => 34,
+        Kind::If => 35,
+        Kind::Import => 36,
+        Kind::In => 37,
+        Kind::Is => 38,
+        Kind::Lambda => 39,
+        Kind::Nonlocal => 40,
+        Kind::Not => 41,
+        Kind::Or => 42,
+        Kind::Pass => 43,
+        Kind::Raise => 44,
+        Kind::Return => 45,
+        Kind::Try => 46,
+        Kind::While => 47,
+        Kind::With => 48,
+        Kind::Yield => 49,
+        _ => operator_code(kind),
+    }
+}
+
+/// The class of a token whose value has a part in it.
+fn value_class(token: &Token) -> u8
+    requires { code token.now.kind ≡ 0 }
+    ensures { result ≡ class token.now }
+{
+    match token.kind {
+        Kind::Name => name_class(&token.value),
+        Kind::Number => number_class(&token.value),
+        Kind::Text => text_class(&token.value),
+        Kind::FStringText => part_text_class(&token.value),
+        _ => 0,
+    }
+}
+
+/// The class of a token.
+#[tactic(auto, using(crate::proofs::Marks::class_is))]
+pub fn class_of(token: &Token) -> u8
+    ensures { result ≡ class token.now }
+{
+    let own = code_of(token.kind);
+    if own == 0 { value_class(token) } else { own }
 }
 
 /// Whether the class is that of an atom of one token.
@@ -385,4 +428,20 @@ pub fn begins_logic(class: u8) -> bool
     ensures choice { result ≡ false → has (35 ∷ []) class ≡ false }
 {
     class == AND || class == OR || class == IF
+}
+
+/// Whether the class is one with which a primary, a power, or operands go on behind their first atom.
+pub fn goes_on(class: u8) -> bool
+    ensures step { result ≡ false → has (step_first true) class ≡ false }
+    ensures exponent { result ≡ false → has (53 ∷ []) class ≡ false }
+    ensures binary { (level : ℕ) → result ≡ false → has (level_codes level) class ≡ false }
+    ensures comparison { result ≡ false → has comparison_first class ≡ false }
+    ensures conjunction { result ≡ false → has (18 ∷ []) class ≡ false }
+    ensures disjunction { result ≡ false → has (42 ∷ []) class ≡ false }
+    ensures choice { result ≡ false → has (35 ∷ []) class ≡ false }
+{
+    begins_step(true, class)
+        || class == DOUBLE_STAR
+        || begins_operator(class)
+        || begins_logic(class)
 }

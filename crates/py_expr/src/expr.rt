@@ -19,9 +19,9 @@ use crate::class::{DOUBLE_STAR, ELSE, IF, NOT, begins_expr, class_of};
 use crate::inner::exprs_by;
 use crate::logic::disjunction_by;
 use crate::operator::comparison_by;
-use crate::parts::{stands_logic, stands_operator, stands_unary};
+use crate::parts::{stands_alone, stands_logic, stands_operator, stands_unary};
 use crate::primary::primary_by;
-use crate::token::{Taken, make_leaf, mark, open, open_unary, stands};
+use crate::token::{Taken, leaf_here, make_leaf, mark, open, open_unary, stands};
 use phrases::{Fault, Stop};
 use py_ast::{Expr, Form};
 use py_lexer::Token;
@@ -31,10 +31,23 @@ use std::alloc::Global;
 
 /// The longest expression at the front of the tokens, with room for so many nestings, one in another.
 ///
-/// Linear in the tokens that it takes.
+/// Most are one token, which the token behind it tells. Linear in the tokens that it takes.
+#[cycle(expr)]
+pub fn expr_of(alloc: Global, tokens: &[Token], room: u8) -> Taken<'_, Expr>
+    ensures read { Gives (λ x. Read x.0 x.1.now) result ((expr room).read tokens.now) }
+    ensures shorter { IfOk result (λ x. length x.1.now < length tokens.now) }
+{
+    if stands_alone(tokens) {
+        leaf_here(tokens)
+    } else {
+        whole_of(alloc, tokens, room)
+    }
+}
+
+/// An expression, whatever stands behind its first token.
 #[cycle(expr)]
 #[tactic(auto, using(crate::proofs::Alone::expr_alone))]
-pub fn expr_of(alloc: Global, tokens: &[Token], room: u8) -> Taken<'_, Expr>
+fn whole_of(alloc: Global, tokens: &[Token], room: u8) -> Taken<'_, Expr>
     ensures read { Gives (λ x. Read x.0 x.1.now) result ((expr room).read tokens.now) }
     ensures shorter { IfOk result (λ x. length x.1.now < length tokens.now) }
 {
@@ -171,13 +184,26 @@ fn factor_of(alloc: Global, tokens: &[Token], room: u8) -> Taken<'_, Expr>
 
 /// A primary, with its exponent if it has one.
 #[cycle(expr)]
-#[tactic(auto, unfolding(py_ast::specs::Grammar::power))]
+#[tactic(auto, using(crate::proofs::Ends::power_alone))]
 fn power_of(alloc: Global, tokens: &[Token], room: u8) -> Taken<'_, Expr>
     ensures read { Gives (λ x. Read x.0 x.1.now) result ((power room (nested room Whole) (nested room Factor)).read tokens.now) }
     ensures shorter { IfOk result (λ x. length x.1.now < length tokens.now) }
 {
     let (base, rest) = primary_of(alloc, tokens, room)?;
-    let (exponent, rest) = exponent_of(alloc, rest, room)?;
+    if !stands(rest, DOUBLE_STAR) {
+        return Ok((base, rest));
+    }
+    power_from(alloc, base, rest, room)
+}
+
+/// A power, where its base was read and the tokens begin behind that.
+#[cycle(expr)]
+#[tactic(auto, unfolding(py_ast::specs::Grammar::power))]
+fn power_from(alloc: Global, base: Expr, tokens: &[Token], room: u8) -> Taken<'_, Expr>
+    ensures read { (ts : List Token) → (primary room (nested room Whole)).read ts ≡ Read base tokens.now → Gives (λ x. Read x.0 x.1.now) result ((power room (nested room Whole) (nested room Factor)).read ts) }
+    ensures no_longer { IfOk result (λ x. length x.1.now ≤ length tokens.now) }
+{
+    let (exponent, rest) = exponent_of(alloc, tokens, room)?;
     Ok((as_power(alloc, base, exponent)?, rest))
 }
 

@@ -15,7 +15,7 @@ ghost use Rattle.py_expr.specs.Readers.{ReadsSome};
 use crate::build::as_tuple;
 use crate::class::{COMMA, class_of};
 use crate::parts::stands_expr;
-use crate::token::{Taken, mark};
+use crate::token::{Taken, mark, stands};
 use phrases::series;
 use py_ast::Expr;
 use py_lexer::Token;
@@ -36,7 +36,7 @@ where
 }
 
 /// Expressions between commas: a tuple where there is a comma.
-#[tactic(auto, unfolding(py_ast::specs::Grammar::exprs, py_ast::specs::Grammar::mapped))]
+#[tactic(auto, using(crate::proofs::Ends::exprs_alone))]
 pub fn exprs_by<'a, F>(alloc: Global, tokens: &'a [Token], room: u8, inner: &F) -> Taken<'a, Expr>
 where
     F: Fn(&[Token]) -> Taken<'_, Expr>,
@@ -45,7 +45,30 @@ where
     ensures read { Gives (λ x. Read x.0 x.1.now) result ((exprs (nested room Whole)).read tokens.now) }
     ensures shorter { IfOk result (λ x. length x.1.now < length tokens.now) }
 {
-    let ((first, others), rest) = items_by(alloc, tokens, room, inner)?;
+    let (first, rest) = nested_by(tokens, room, inner)?;
+    if !stands(rest, COMMA) {
+        return Ok((first, rest));
+    }
+    exprs_from(alloc, first, rest, room, inner)
+}
+
+/// Expressions between commas, where the first was read and the tokens begin behind it.
+#[tactic(auto, unfolding(py_ast::specs::Grammar::exprs, py_ast::specs::Grammar::mapped, py_ast::specs::Grammar::items))]
+fn exprs_from<'a, F>(
+    alloc: Global,
+    first: Expr,
+    tokens: &'a [Token],
+    room: u8,
+    inner: &F,
+) -> Taken<'a, Expr>
+where
+    F: Fn(&[Token]) -> Taken<'_, Expr>,
+    requires can_call { F.IsAlwaysCallable inner.now }
+    requires reads { ReadsSome (λ ts r. F.post inner.now ts r) (nested room Whole).read }
+    ensures read { (ts : List Token) → (nested room Whole).read ts ≡ Read first tokens.now → Gives (λ x. Read x.0 x.1.now) result ((exprs (nested room Whole)).read ts) }
+    ensures no_longer { IfOk result (λ x. length x.1.now ≤ length tokens.now) }
+{
+    let (others, rest) = further_items_by(alloc, tokens, room, inner)?;
     Ok((as_tuple(alloc, first, others)?, rest))
 }
 

@@ -1,16 +1,16 @@
 //! Productions in which no expression nests: attributes, comparisons, and what begins a larger phrase.
 
-ghost use Rattle.std.specs.Prelude.{◌≡◌, ◌<◌, ◌≤◌, ◌∷◌, [], ℕ, false, IfOk, length};
+ghost use Rattle.std.specs.Prelude.{◌≡◌, ◌<◌, ◌≤◌, ◌∷◌, [], ℕ, true, false, IfOk, length, drop};
 ghost use Rattle.phrases.specs.Sets.{has, starts};
 ghost use Rattle.phrases.specs.Reading.{Read};
 ghost use Rattle.phrases.specs.Loops.{Gives};
 ghost use Rattle.py_ast.specs.Kinds.{class};
-ghost use Rattle.py_ast.specs.Tokens.{unary_codes, level_codes};
-ghost use Rattle.py_ast.specs.Grammar.{expr_first, argument_first, comparison_first, attribute, after_is, comparator};
+ghost use Rattle.py_ast.specs.Tokens.{leaf_codes, unary_codes, level_codes};
+ghost use Rattle.py_ast.specs.Grammar.{expr_first, step_first, argument_first, comparison_first, attribute, after_is, comparator};
 
 use crate::class::{
-    DOT, IN, IS, NOT, begins_argument, begins_expr, begins_logic, begins_operand, begins_operator,
-    begins_unary, class_of,
+    DOT, IN, IS, NOT, begins_argument, begins_expr, begins_leaf, begins_logic, begins_operand,
+    begins_operator, begins_step, begins_unary, class_of, code_of, goes_on,
 };
 use crate::token::{Taken, comparator_token, mark, name_token, stands};
 use py_ast::{Comparator, Step, StepForm};
@@ -28,46 +28,78 @@ pub fn stands_expr(tokens: &[Token]) -> bool
 }
 
 /// Whether a unary operator stands here.
+#[tactic(auto, using(crate::proofs::Marks::unary_is))]
 pub fn stands_unary(tokens: &[Token]) -> bool
     ensures { result ≡ starts class unary_codes tokens.now }
 {
     match tokens {
-        [first, ..] => begins_unary(class_of(first)),
+        [first, ..] => begins_unary(code_of(first.kind)),
         [] => false,
     }
 }
 
 /// Whether a binary operator of this level stands here, the tightest first.
+#[tactic(auto, using(crate::proofs::Marks::level_is))]
 pub fn stands_operand(tokens: &[Token], level: u8) -> bool
     requires { level < 6 }
     ensures { result ≡ starts class (level_codes level) tokens.now }
 {
     match tokens {
-        [first, ..] => begins_operand(level, class_of(first)),
+        [first, ..] => begins_operand(level, code_of(first.kind)),
         [] => false,
     }
 }
 
 /// Whether a binary operator of any level stands here, or a comparison.
+#[tactic(auto, using(crate::proofs::Marks::level_is, crate::proofs::Marks::comparison_is))]
 pub fn stands_operator(tokens: &[Token]) -> bool
     ensures binary { (level : ℕ) → result ≡ false → starts class (level_codes level) tokens.now ≡ false }
     ensures comparison { result ≡ false → starts class comparison_first tokens.now ≡ false }
 {
     match tokens {
-        [first, ..] => begins_operator(class_of(first)),
+        [first, ..] => begins_operator(code_of(first.kind)),
         [] => false,
     }
 }
 
 /// Whether `and`, `or` or `if` stands here.
+#[tactic(auto, using(crate::proofs::Marks::and_is, crate::proofs::Marks::or_is, crate::proofs::Marks::if_is))]
 pub fn stands_logic(tokens: &[Token]) -> bool
     ensures conjunction { result ≡ false → starts class (18 ∷ []) tokens.now ≡ false }
     ensures disjunction { result ≡ false → starts class (42 ∷ []) tokens.now ≡ false }
     ensures choice { result ≡ false → starts class (35 ∷ []) tokens.now ≡ false }
 {
     match tokens {
-        [first, ..] => begins_logic(class_of(first)),
+        [first, ..] => begins_logic(code_of(first.kind)),
         [] => false,
+    }
+}
+
+/// Whether a step stands here, which may be a call where `callable` says so.
+#[tactic(auto, using(crate::proofs::Marks::step_is))]
+pub fn stands_step(tokens: &[Token], callable: bool) -> bool
+    ensures { result ≡ starts class (step_first callable) tokens.now }
+{
+    match tokens {
+        [first, ..] => begins_step(callable, code_of(first.kind)),
+        [] => false,
+    }
+}
+
+/// Whether an atom of one token stands here, and no token behind it goes on with it.
+pub fn stands_alone(tokens: &[Token]) -> bool
+    ensures leaf { result ≡ true → starts class leaf_codes tokens.now ≡ true }
+    ensures step { result ≡ true → starts class (step_first true) (drop 1 tokens.now) ≡ false }
+    ensures exponent { result ≡ true → starts class (53 ∷ []) (drop 1 tokens.now) ≡ false }
+    ensures binary { (level : ℕ) → result ≡ true → starts class (level_codes level) (drop 1 tokens.now) ≡ false }
+    ensures comparison { result ≡ true → starts class comparison_first (drop 1 tokens.now) ≡ false }
+    ensures conjunction { result ≡ true → starts class (18 ∷ []) (drop 1 tokens.now) ≡ false }
+    ensures disjunction { result ≡ true → starts class (42 ∷ []) (drop 1 tokens.now) ≡ false }
+    ensures choice { result ≡ true → starts class (35 ∷ []) (drop 1 tokens.now) ≡ false }
+{
+    match tokens {
+        [first, second, ..] => !goes_on(class_of(second)) && begins_leaf(class_of(first)),
+        _ => false,
     }
 }
 

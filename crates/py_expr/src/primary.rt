@@ -7,7 +7,7 @@ ghost use Rattle.phrases.specs.Phrases.{token, nothing, sequence, either};
 ghost use Rattle.phrases.specs.Loops.{Gives};
 ghost use Rattle.py_ast.specs.Kinds.{class, mark_of};
 ghost use Rattle.py_ast.specs.Trees.{has_keyword, bare_name, keyword_argument_of, argument_of};
-ghost use Rattle.py_ast.specs.Grammar.{mapped, past, ended, second, step_first, step_next, argument_first, comma_item, comma_items, goes_past, after_argument, argument, arguments, call, subscript, step, chain, primary, Whole, nested};
+ghost use Rattle.py_ast.specs.Grammar.{mapped, past, ended, second, step_first, step_next, argument_first, comma_item, comma_items, goes_past, after_argument, argument, arguments, call, subscript, step, chain, atom, primary, Whole, nested};
 ghost use Rattle.py_expr.specs.Readers.{ReadsSome};
 
 use crate::atom::atom_by;
@@ -17,7 +17,7 @@ use crate::class::{
     class_of,
 };
 use crate::inner::{exprs_by, nested_by};
-use crate::parts::{attribute_of, stands_argument};
+use crate::parts::{attribute_of, stands_argument, stands_step};
 use crate::token::{Taken, mark, name_token, open, stands, super_token};
 use phrases::{Stop, series};
 use py_ast::{Argument, Expr, NameAt, Step, StepForm};
@@ -27,8 +27,8 @@ use rv_names::Memory;
 use sqlite_items::{Boxed, Items};
 use std::alloc::Global;
 
-/// A primary: an atom, and what is done to it.
-#[tactic(auto, unfolding(py_ast::specs::Grammar::primary))]
+/// A primary: an atom, and what is done to it. Where no step stands behind the atom, it is the primary.
+#[tactic(auto, using(crate::proofs::Ends::primary_alone))]
 pub fn primary_by<'a, F>(alloc: Global, tokens: &'a [Token], room: u8, inner: F) -> Taken<'a, Expr>
 where
     F: Fn(&[Token]) -> Taken<'_, Expr>,
@@ -38,8 +38,30 @@ where
     ensures shorter { IfOk result (λ x. length x.1.now < length tokens.now) }
 {
     let (base, rest) = atom_by(alloc, tokens, room, &inner)?;
+    if !stands_step(rest, true) {
+        return Ok((base, rest));
+    }
+    postfix_by(alloc, base, rest, room, &inner)
+}
+
+/// What is done to a primary whose atom was read, where the tokens begin behind that.
+#[tactic(auto, unfolding(py_ast::specs::Grammar::primary))]
+fn postfix_by<'a, F>(
+    alloc: Global,
+    base: Expr,
+    tokens: &'a [Token],
+    room: u8,
+    inner: &F,
+) -> Taken<'a, Expr>
+where
+    F: Fn(&[Token]) -> Taken<'_, Expr>,
+    requires can_call { F.IsAlwaysCallable inner.now }
+    requires reads { ReadsSome (λ ts r. F.post inner.now ts r) (nested room Whole).read }
+    ensures read { (ts : List Token) → (atom room (nested room Whole)).read ts ≡ Read base tokens.now → Gives (λ x. Read x.0 x.1.now) result ((primary room (nested room Whole)).read ts) }
+    ensures no_longer { IfOk result (λ x. length x.1.now ≤ length tokens.now) }
+{
     let callable = base.is_callee();
-    let (steps, rest) = chain_by(alloc, rest, room, callable, &inner)?;
+    let (steps, rest) = chain_by(alloc, tokens, room, callable, inner)?;
     Ok((as_postfix(alloc, base, steps)?, rest))
 }
 
@@ -297,12 +319,34 @@ where
     ensures shorter { IfOk result (λ x. length x.1.now < length tokens.now) }
 {
     let (first, rest) = nested_by(tokens, room, inner)?;
+    let (keyword, rest) = keyword_behind(alloc, &first, rest, room, inner)?;
+    Ok((as_argument(first, keyword), rest))
+}
+
+/// The keyword that an expression is, and its value. Whether it is a name is asked only where an `=` stands behind it.
+#[tactic(auto, using(crate::proofs::Ends::after_alone))]
+fn keyword_behind<'a, F>(
+    alloc: Global,
+    first: &Expr,
+    tokens: &'a [Token],
+    room: u8,
+    inner: &F,
+) -> Taken<'a, Option<(NameAt, Expr)>>
+where
+    F: Fn(&[Token]) -> Taken<'_, Expr>,
+    requires can_call { F.IsAlwaysCallable inner.now }
+    requires reads { ReadsSome (λ ts r. F.post inner.now ts r) (nested room Whole).read }
+    ensures read { Gives (λ x. Read x.0 x.1.now) result ((after_argument (nested room Whole) (bare_name first.now)).read tokens.now) }
+    ensures no_longer { IfOk result (λ x. length x.1.now ≤ length tokens.now) }
+{
+    if !stands(tokens, EQUAL) {
+        return Ok((None, tokens));
+    }
     let name = match first.bare_name() {
         Ok(name) => name,
         Err(Memory) => return Err(Stop::Memory),
     };
-    let (keyword, rest) = after_argument_by(alloc, rest, room, name, inner)?;
-    Ok((as_argument(first, keyword), rest))
+    after_argument_by(alloc, tokens, room, name, inner)
 }
 
 #[tactic(auto, unfolding(py_ast::specs::Grammar::after_argument, py_ast::specs::Grammar::past, py_ast::specs::Grammar::mapped))]

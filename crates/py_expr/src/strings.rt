@@ -52,8 +52,8 @@ fn parts_of(alloc: Global, pieces: Items<(Pos, Piece)>) -> Result<Items<Part>, M
     Ok(parts)
 }
 
-/// Strings in a row, as one expression.
-pub fn as_strings(
+/// Several strings in a row, or one, as one expression.
+fn joined_strings(
     alloc: Global,
     first: (Pos, Piece),
     others: Items<(Pos, Piece)>,
@@ -68,4 +68,30 @@ pub fn as_strings(
         Some(text) => Ok(make_leaf(at, Form::Text(text))),
         None => Ok(make_leaf(at, Form::Formatted(parts_of(alloc, pieces)?))),
     }
+}
+
+/// What a string alone stands for, with nothing copied: most strings have no neighbour.
+#[tactic(auto, using(crate::proofs::Texts::alone_plain, crate::proofs::Texts::alone_formatted))]
+fn alone(piece: Piece) -> Form
+    ensures { (at : Pos) → result ≡ joined_form ((at, piece) ∷ []) (plain_text ((at, piece) ∷ [])) }
+{
+    match piece {
+        Piece::Plain(text) => Form::Text(text),
+        Piece::Formatted(parts) => Form::Formatted(parts),
+    }
+}
+
+/// Strings in a row, as one expression.
+pub fn as_strings(
+    alloc: Global,
+    first: (Pos, Piece),
+    others: Items<(Pos, Piece)>,
+) -> Result<Expr, Memory>
+    ensures { IfOk result (λ e. e ≡ strings_of first others) }
+{
+    if !others.is_empty() {
+        return joined_strings(alloc, first, others);
+    }
+    let (at, piece) = first;
+    Ok(make_leaf(at, alone(piece)))
 }

@@ -1,17 +1,17 @@
 //! Single tokens of expressions.
 
-ghost use Rattle.std.specs.Prelude.{◌≡◌, ◌<◌, ◌∷◌, [], ℕ, List, IfOk, length};
+ghost use Rattle.std.specs.Prelude.{◌≡◌, ◌<◌, ◌∷◌, [], ℕ, true, List, IfOk, length};
 ghost use Rattle.phrases.specs.Sets.{has, starts};
 ghost use Rattle.phrases.specs.Reading.{Read};
 ghost use Rattle.phrases.specs.Phrases.{token, opener};
 ghost use Rattle.phrases.specs.Loops.{Gives};
 ghost use Rattle.py_ast.specs.Kinds.{class, mark_of, pick, placed};
-ghost use Rattle.py_ast.specs.Tokens.{leaf_at, leaf_of, leaf_form, name_codes, name_of, name_value, text_of, text_value, part_text_of, part_value, unary_operator_of, unary_in, operator_of, binary_in, comparator_of, comparator_in};
+ghost use Rattle.py_ast.specs.Tokens.{leaf_codes, leaf_at, leaf_of, leaf_form, name_codes, name_of, name_value, text_of, text_value, part_text_of, part_value, unary_operator_of, unary_in, operator_of, binary_in, comparator_of, comparator_in};
 ghost use Rattle.py_ast.specs.Trees.{leaf};
 
 use crate::class::{
     F_STRING_TEXT, NAME, SUPER, TEXT, begins_comparator, begins_leaf, begins_operand, begins_unary,
-    class_of,
+    class_of, code_of,
 };
 use phrases::{Fault, Stop};
 use py_ast::{
@@ -24,12 +24,24 @@ use rv_names::Memory;
 /// What a function that reads gives: the value, and the tokens that it didn't take.
 pub type Taken<'a, A> = Result<(A, &'a [Token]), Stop<'a, Token>>;
 
+/// Whether the token is of this class. Its value is looked at only where a value has a part in the class.
+#[tactic(auto, using(crate::proofs::Marks::mark_is))]
+pub fn is_of(token: &Token, code: u8) -> bool
+    ensures { result ≡ has (code ∷ []) (class token.now) }
+{
+    if code < 5 || code == F_STRING_TEXT {
+        class_of(token) == code
+    } else {
+        code_of(token.kind) == code
+    }
+}
+
 /// Whether a token of this class stands at the front.
 pub fn stands(tokens: &[Token], code: u8) -> bool
     ensures { result ≡ starts class (code ∷ []) tokens.now }
 {
     match tokens {
-        [first, ..] => class_of(first) == code,
+        [first, ..] => is_of(first, code),
         [] => false,
     }
 }
@@ -41,7 +53,7 @@ pub fn mark(tokens: &[Token], code: u8) -> Taken<'_, Pos>
 {
     match tokens {
         [first, rest @ ..] => {
-            if class_of(first) == code {
+            if is_of(first, code) {
                 Ok((first.at, rest))
             } else {
                 Err(Stop::Fault(Fault::Syntax, tokens))
@@ -59,7 +71,7 @@ pub fn open(tokens: &[Token], code: u8, room: u8) -> Taken<'_, Pos>
 {
     match tokens {
         [first, rest @ ..] => {
-            if class_of(first) != code {
+            if !is_of(first, code) {
                 Err(Stop::Fault(Fault::Syntax, tokens))
             } else if room == 0 {
                 Err(Stop::Fault(Fault::TooDeep, tokens))
@@ -91,20 +103,33 @@ fn leaf_form(kind: Kind, value: &Value) -> Result<Option<Form>, Memory>
     }
 }
 
+/// An atom of one token, where one stands.
+pub fn leaf_here(tokens: &[Token]) -> Taken<'_, Expr>
+    requires { starts class leaf_codes tokens.now ≡ true }
+    ensures read { Gives (λ x. Read x.0 x.1.now) result ((token leaf_of).read tokens.now) }
+    ensures shorter { IfOk result (λ x. length x.1.now < length tokens.now) }
+{
+    match tokens {
+        [first, rest @ ..] => match leaf_form(first.kind, &first.value) {
+            Err(Memory) => Err(Stop::Memory),
+            Ok(None) => Err(Stop::Fault(Fault::Syntax, tokens)),
+            Ok(Some(form)) => Ok((make_leaf(first.at, form), rest)),
+        },
+        [] => Err(Stop::Fault(Fault::Syntax, tokens)),
+    }
+}
+
 /// An atom of one token.
 pub fn leaf_token(tokens: &[Token]) -> Taken<'_, Expr>
     ensures read { Gives (λ x. Read x.0 x.1.now) result ((token leaf_of).read tokens.now) }
     ensures shorter { IfOk result (λ x. length x.1.now < length tokens.now) }
 {
     match tokens {
-        [first, rest @ ..] => {
-            if !begins_leaf(class_of(first)) {
-                return Err(Stop::Fault(Fault::Syntax, tokens));
-            }
-            match leaf_form(first.kind, &first.value) {
-                Err(Memory) => Err(Stop::Memory),
-                Ok(None) => Err(Stop::Fault(Fault::Syntax, tokens)),
-                Ok(Some(form)) => Ok((make_leaf(first.at, form), rest)),
+        [first, ..] => {
+            if begins_leaf(class_of(first)) {
+                leaf_here(tokens)
+            } else {
+                Err(Stop::Fault(Fault::Syntax, tokens))
             }
         }
         [] => Err(Stop::Fault(Fault::Syntax, tokens)),

@@ -1,0 +1,141 @@
+-- What ends with its first operand: primaries, powers, lists and arguments behind which nothing goes on, and an expression of one token.
+use Rattle.std.proofs.Common.{◌≡◌, ℕ, Bool, true, false, List, [], ◌∷◌, drop, Option, Some, None, refl, sym, ◌∙◌}
+use Rattle.phrases.specs.Sets.{starts, apart}
+use Rattle.phrases.specs.Reading.{Outcome, Read, Stuck}
+use Rattle.phrases.specs.Series.{read_run}
+use Rattle.phrases.specs.Phrases.{Phrase, token, sequence}
+use Rattle.phrases.specs.Loops.{Fails}
+use Rattle.phrases.specs.declared.fault.Fault.{Fault}
+use Rattle.phrases.specs.declared.fault.Stop.{Stop}
+use Rattle.phrases.specs.declared.fault.Stop.TheVariants as reasons
+use Rattle.phrases.proofs.Sets.{apart_has, has_left}
+use Rattle.py_lexer.specs.declared.token.Token.{Token}
+use Rattle.py_ast.specs.declared.tree.Expr.{Expr}
+use Rattle.py_ast.specs.declared.tree.NameAt.{NameAt}
+use Rattle.py_ast.specs.Kinds.{class}
+use Rattle.py_ast.specs.Tokens.{leaf_codes, leaf_of, unary_codes, level_codes}
+use Rattle.py_ast.specs.Trees.{is_callee, postfix_of, power_of}
+use Rattle.py_ast.specs.Grammar.{Inversion, Factor, shaped, nested, Whole, expr, binary, comparison_first, comparison, after_argument, step_first, step_next, step, chain, atom, primary, exponent, power, factor_over, inversion_over, comma_first, expr_first, comma_item, comma_items, goes_past, both, mapped, items, exprs}
+use Rattle.py_ast.proofs.TokenLaws.{leaf-kind}
+use Rattle.py_expr.proofs.Nestings.{inversion_is, factor_is}
+use Rattle.py_expr.proofs.Alone.{comparison_alone, expr_alone}
+
+-- the second phrase goes on where the first ends
+both-read : {A B C : Type 0} (g : Phrase Token A) (h : A → Phrase Token B) (f : A → B → C) (ts : List Token) (v : A) (y : List Token) (w : B) (z : List Token) → g.read ts ≡ Read v y → (h v).read y ≡ Read w z → (sequence g h f).read ts ≡ Read (f v w) z
+both-read g h f ts v y w z e k = rw (e, k) refl
+
+-- ---- arguments: one with no `=` behind its first expression is that expression
+
+pub after_alone : (e : Phrase Token Expr) (n : Option NameAt) (y : List Token) → starts class (81 ∷ []) y ≡ false → (after_argument e n).read y ≡ Read None y
+unfolding after_argument
+after_alone e None y h = refl
+after_alone e (Some n) y h = rw h refl
+
+-- ---- primaries and powers
+
+-- where no item begins, a series has none
+no-run : {A S : Type 0} (first : S → List ℕ) (p : S → List Token → Outcome Token A) (next : S → A → Option S) (s : S) (y : List Token) → starts class (first s) y ≡ false → read_run class first p next s y ≡ Read [] y
+no-run first p next s [] e = refl
+no-run first p next s (t ∷ y) e = rw e refl
+
+-- where no comma stands behind an expression, there is one
+items-alone : (e : Phrase Token Expr) (ts : List Token) (v : Expr) (y : List Token) → e.read ts ≡ Read v y → starts class (77 ∷ []) y ≡ false → (items e).read ts ≡ Read (v, []) y
+unfolding items comma_items
+items-alone e ts v y h k =
+    both-read e (λ a. comma_items (λ s. expr_first) (λ s. e) (λ a. tt {0}) (tt {0})) both ts v y [] y h (no-run (λ s. comma_first) (λ s. (comma_item expr_first e).read) (λ s i. goes_past (λ a. tt {0}) i) (tt {0}) y k)
+
+pub exprs_alone : (e : Phrase Token Expr) (ts : List Token) (v : Expr) (y : List Token) → e.read ts ≡ Read v y → starts class (77 ∷ []) y ≡ false → (exprs e).read ts ≡ Read v y
+unfolding exprs mapped
+exprs_alone e ts v y h k = rw (items-alone e ts v y h k) refl
+
+exprs-stuck : (e : Phrase Token Expr) (ts : List Token) (w : Fault) (y : List Token) → e.read ts ≡ Stuck w y → (exprs e).read ts ≡ Stuck w y
+unfolding exprs mapped items
+exprs-stuck e ts w y h = rw h refl
+
+pub exprs_fails : (e : Phrase Token Expr) (ts : List Token) (s : Stop Token) → Fails s (e.read ts) → Fails s ((exprs e).read ts)
+exprs_fails e ts reasons.Memory h = tt
+exprs_fails e ts (reasons.Fault w y) h = exprs-stuck e ts w y.now h
+
+-- what is no step of a primary that may be called is none of another
+no-step : (callable : Bool) (y : List Token) → starts class (step_first true) y ≡ false → starts class (step_first callable) y ≡ false
+no-step true y h = h
+no-step false [] h = refl
+no-step false (t ∷ y) h = has_left (step_first false) (71 ∷ []) (class t) h
+
+chain-alone : (room : ℕ) (e : Phrase Token Expr) (callable : Bool) (y : List Token) → starts class (step_first true) y ≡ false → (chain room e callable).read y ≡ Read [] y
+unfolding chain
+chain-alone room e callable y h = no-run step_first (λ s. (step room e s).read) step_next callable y (no-step callable y h)
+
+pub primary_alone : (room : ℕ) (e : Phrase Token Expr) (ts : List Token) (v : Expr) (y : List Token) → (atom room e).read ts ≡ Read v y → starts class (step_first true) y ≡ false → (primary room e).read ts ≡ Read v y
+unfolding primary
+primary_alone room e ts v y h k = both-read (atom room e) (λ a. chain room e (is_callee a)) postfix_of ts v y [] y h (chain-alone room e (is_callee v) y k)
+
+exponent-alone : (room : ℕ) (f : Phrase Token Expr) (y : List Token) → starts class (53 ∷ []) y ≡ false → (exponent room f).read y ≡ Read None y
+unfolding exponent
+exponent-alone room f y k = rw k refl
+
+pub power_alone : (room : ℕ) (e f : Phrase Token Expr) (ts : List Token) (v : Expr) (y : List Token) → (primary room e).read ts ≡ Read v y → starts class (53 ∷ []) y ≡ false → (power room e f).read ts ≡ Read v y
+unfolding power
+power_alone room e f ts v y h k = both-read (primary room e) (λ a. exponent room f) power_of ts v y None y h (exponent-alone room f y k)
+
+primary-stuck : (room : ℕ) (e : Phrase Token Expr) (ts : List Token) (w : Fault) (y : List Token) → (atom room e).read ts ≡ Stuck w y → (primary room e).read ts ≡ Stuck w y
+unfolding primary
+primary-stuck room e ts w y h = rw h refl
+
+pub primary_fails : (room : ℕ) (e : Phrase Token Expr) (ts : List Token) (s : Stop Token) → Fails s ((atom room e).read ts) → Fails s ((primary room e).read ts)
+primary_fails room e ts reasons.Memory h = tt
+primary_fails room e ts (reasons.Fault w y) h = primary-stuck room e ts w y.now h
+
+power-stuck : (room : ℕ) (e f : Phrase Token Expr) (ts : List Token) (w : Fault) (y : List Token) → (primary room e).read ts ≡ Stuck w y → (power room e f).read ts ≡ Stuck w y
+unfolding power
+power-stuck room e f ts w y h = rw h refl
+
+pub power_fails : (room : ℕ) (e f : Phrase Token Expr) (ts : List Token) (s : Stop Token) → Fails s ((primary room e).read ts) → Fails s ((power room e f).read ts)
+power_fails room e f ts reasons.Memory h = tt
+power_fails room e f ts (reasons.Fault w y) h = power-stuck room e f ts w y.now h
+
+-- ---- an expression of one token
+
+-- a token that is an atom begins no unary operator, and is no `not`
+leaf-only : (s : List ℕ) (ts : List Token) → apart leaf_codes s ≡ true → starts class leaf_codes ts ≡ true → starts class s ts ≡ false
+leaf-only s [] e h = refl
+leaf-only s (t ∷ ts) e h = apart_has leaf_codes s (class t) e h
+
+atom-leaf : (room : ℕ) (e : Phrase Token Expr) (ts : List Token) → starts class leaf_codes ts ≡ true → (atom room e).read ts ≡ (token leaf_of).read ts
+unfolding atom
+atom-leaf room e ts h = rw h refl
+
+factor-alone : (room : ℕ) (ts : List Token) (v : Expr) (y : List Token) → (power room (nested room Whole) (nested room Factor)).read ts ≡ Read v y → starts class unary_codes ts ≡ false → (shaped Factor room).read ts ≡ Read v y
+unfolding factor_over
+factor-alone room ts v y h k = factor_is room ts ∙ rw k h
+
+inversion-alone : (room : ℕ) (ts : List Token) (v : Expr) (y : List Token) → (comparison (binary 6 (shaped Factor room))).read ts ≡ Read v y → starts class (41 ∷ []) ts ≡ false → (shaped Inversion room).read ts ≡ Read v y
+unfolding inversion_over
+inversion-alone room ts v y h k = inversion_is room ts ∙ rw k h
+
+-- what no token behind it goes on with
+pub record Ends (y : List Token) : Type 0 where
+  pub step : starts class (step_first true) y ≡ false
+  pub exponent : starts class (53 ∷ []) y ≡ false
+  pub binary : (level : ℕ) → starts class (level_codes level) y ≡ false
+  pub comparison : starts class comparison_first y ≡ false
+  pub conjunction : starts class (18 ∷ []) y ≡ false
+  pub disjunction : starts class (42 ∷ []) y ≡ false
+  pub choice : starts class (35 ∷ []) y ≡ false
+
+leaf-read : (room : ℕ) (ts : List Token) (v : Expr) (y : List Token) → starts class leaf_codes ts ≡ true → (token leaf_of).read ts ≡ Read v y → Ends y → (expr room).read ts ≡ Read v y
+leaf-read room ts v y h r e =
+    let p : (primary room (nested room Whole)).read ts ≡ Read v y = primary_alone room (nested room Whole) ts v y (atom-leaf room (nested room Whole) ts h ∙ r) e.step in
+    let w : (power room (nested room Whole) (nested room Factor)).read ts ≡ Read v y = power_alone room (nested room Whole) (nested room Factor) ts v y p e.exponent in
+    let f : (shaped Factor room).read ts ≡ Read v y = factor-alone room ts v y w (leaf-only unary_codes ts refl h) in
+    let c : (comparison (binary 6 (shaped Factor room))).read ts ≡ Read v y = comparison_alone (shaped Factor room) ts v y f e.binary e.comparison in
+    let i : (shaped Inversion room).read ts ≡ Read v y = inversion-alone room ts v y c (leaf-only (41 ∷ []) ts refl h) in
+    expr_alone room ts v y i e.conjunction e.disjunction e.choice
+
+pub expr_leaf : (room : ℕ) (ts : List Token) → starts class leaf_codes ts ≡ true → Ends (drop 1 ts) → (expr room).read ts ≡ (token leaf_of).read ts
+expr_leaf room [] h e = absurd cc
+expr_leaf room (t ∷ y) h e = by (leaf_of t) refl
+  where
+    by : (o : Option Expr) → leaf_of t ≡ o → (expr room).read (t ∷ y) ≡ (token leaf_of).read (t ∷ y)
+    by None k = absurd (leaf-kind.only t h k)
+    by (Some v) k = let r : (token leaf_of).read (t ∷ y) ≡ Read v y = rw k refl in leaf-read room (t ∷ y) v y h r e ∙ sym r
