@@ -1,12 +1,13 @@
 #!/usr/bin/env python3
 """Command streams of `review check` by hand: the bytes that are written, and the status.
 
-Besides the rows: the first example cut at each byte, with each write failing in turn (a file that may not grow beyond so many bytes), and what
-the stream's commands do at their limits.
+Besides the rows: the first example cut at each byte, with each write failing in turn (a file that may not grow beyond so many bytes), what is
+written before more is read, and what the stream's commands do at their limits.
 """
 
 import os
 import resource
+import select
 import signal
 import subprocess
 import sys
@@ -186,6 +187,38 @@ def writes():
     expect("a source that can't be read", (done.stdout, done.returncode), (b"read fault\n", 4))
 
 
+def talk(pieces):
+    """What is written after each of these pieces of the input, before the next one comes, and after its end; and the status."""
+    with subprocess.Popen([PROGRAM, "check"], stdin=subprocess.PIPE, stdout=subprocess.PIPE) as child:
+        found = []
+        for data, wanted in pieces:
+            child.stdin.write(data)
+            child.stdin.flush()
+            output = b""
+            while len(output) < len(wanted) and select.select([child.stdout], [], [], 10)[0]:
+                more = os.read(child.stdout.fileno(), 65536)
+                if not more:
+                    break
+                output += more
+            found.append(output)
+        rest, _ = child.communicate()
+    return [*found, rest], child.returncode
+
+
+def pieces():
+    """The lines of the commands in a piece are written before the next piece is read."""
+    line = b"sync 0\n"
+    for name, parts, rest in (
+        ("a command a piece", [(b"sync\n", line), (b"sync\n", line)], b"malformed 10\n"),
+        ("a front of a command", [(b"sync\nsync\nsy", line * 2), (b"nc\n", line), (b"s", b""), (b"ync\nsync\n", line * 2)], b"malformed 25\n"),
+        ("a front of a text", [(b"drop a.py\nput a.py 5\nx =", b"absent a.py\n"), (b" 1\nsync\n", b"edit 1\nsync 1\n")], b"malformed 32\n"),
+        ("more lines than go out at once", [(b"sync\n" * 1000 + b"sync", line * 1000), (b"\n", line)], b"malformed 5005\n"),
+        ("a run", [(b"sync\nr", line + b"malformed 5\n")], b""),
+        ("no command", [(b"sync\nx", line + b"malformed 5\n")], b""),
+    ):
+        expect(f"pieces, {name}", talk(parts), ([*(output for _, output in parts), rest], 3))
+
+
 def limits():
     """The counts of a project and its journal, one below, at and above their limits."""
     many = [("a%d.py" % number, b"") for number in range(4096)]
@@ -214,6 +247,7 @@ if __name__ == "__main__":
     rows()
     cut()
     writes()
+    pieces()
     limits()
     for word in ([], ["serve", "0"], ["serve", "33"], ["serve", "01"], ["check", "check"]):
         expect(f"words {word}", run(word, b""), (b"usage: review check | serve W | confirm | gen N SIZE | work N SIZE\n", 2))

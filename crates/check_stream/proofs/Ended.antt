@@ -6,17 +6,15 @@ use Rattle.rv_names.specs.Keys.{Bytes}
 use Rattle.rv_io.specs.Counts.{Rises}
 use Rattle.rv_io.proofs.Steps.{Rises-later}
 use Rattle.script.specs.declared.command.Command.{Command}
-use Rattle.script.specs.Grammar.{Spells}
 use Rattle.stream.specs.State.{State, bytes_of, taken}
-use Rattle.check_stream.specs.Acts.{Acts}
 use Rattle.check_stream.specs.Checks.{Came, IsAll, IsOneOf, OneMore, Takes, Checked, Whole, Broken, Stopped, EndsAt}
 use Rattle.check_stream.specs.Ends.{Closes, answered, unanswered, asked, Ends, closed, not_taken, malformed, unread, too_long, answer_status}
 use Rattle.check_stream.specs.Progress.{Progress}
-use Rattle.check_stream.specs.Sends.{IsFront, Sends}
+use Rattle.check_stream.specs.Sends.{IsFront, Sends, Breaks}
 use Rattle.check_stream.specs.Turns.{Steps, TakesFor}
 use Rattle.check_stream.specs.declared.turn.Turn.{Turn}
 use Rattle.check_stream.proofs.Reached.{Reached, size_after, place_after, all_after}
-use Rattle.check_stream.proofs.Rows.{came_more, came_next}
+use Rattle.check_stream.proofs.Rows.{came_more}
 
 -- ---- what was taken
 
@@ -120,46 +118,76 @@ Did status left_old left_new held_old held_new failed sink_failed =
 came_still : (input out : Bytes) (progress : Progress) (old new : State) → Came input progress out old.pending → bytes_of new ≡ old.pending ++ taken old new → Came (input ++ taken old new) progress out (bytes_of new)
 came_still input out progress old new came kept = subst (Came (input ++ taken old new) progress out) (sym kept) (came_more input (taken old new) old.pending out progress came)
 
--- ---- want of memory
-pub ended_memory : (a b c h k : Option Bytes) (old new : State) (before : Progress) (failed sink_failed : Type 0) → Reached a b h k old before → Steps b c old new → Did 6 a c h k failed sink_failed
-ended_memory a b c h k old new before failed sink_failed reached steps = (
-  reached.input ++ taken old new,
-  reached.out,
-  takes_after 6 a b c reached.input old new reached.size reached.took steps (λ one. absurd cc) (λ e. absurd (omega arith)),
-  reached.wrote,
-  stopped_checked (reached.input ++ taken old new) reached.out (IsAll a (reached.input ++ taken old new)) failed sink_failed
-      (record { progress = before; rest = bytes_of new; came = came_still reached.input reached.out before old new reached.came steps.kept }),
-)
+-- ---- a sink that failed behind a front of what was due
 
--- ---- a sink that failed at the lines of a command
-front_of : (lines line front more : Bytes) → line ≡ front ++ more → IsFront (lines ++ front) ((lines ++ line) ++ [])
-front_of lines line front more parts = (more, append-nil (lines ++ line) ∙ ap (λ (l : Bytes). lines ++ l) parts ∙ sym (append_assoc lines front more))
+broken_at : (due front rest lines : Bytes) → due ≡ front ++ rest → IsFront (lines ++ front) ((lines ++ due) ++ [])
+broken_at due front rest lines parts = (rest, append-nil (lines ++ due) ∙ ap (λ (l : Bytes). lines ++ l) parts ∙ sym (append_assoc lines front rest))
 
-pub ended_writing : (a b c h k m : Option Bytes) (old new : State) (before come_to : Progress) (line front more : Bytes) (command : Command) (failed sink_failed : Type 0)
-    → Reached a b h k old before → Steps b c old new → Consumes b c (taken old new) → Spells 0 new.last command → Acts before new.last command line come_to
-    → Appends k m front → line ≡ front ++ more → sink_failed → Did 5 a c h m failed sink_failed
-ended_writing a b c h k m old new before come_to line front more command failed sink_failed reached steps took spells acts wrote parts fell = (
-  reached.input ++ taken old new,
-  reached.out ++ front,
-  takes_after 5 a b c reached.input old new reached.size reached.took steps (λ one. took) (λ e. absurd (omega arith)),
-  Appends-trans h k m reached.out front reached.wrote wrote,
-  broken_checked (reached.input ++ taken old new) (reached.out ++ front) (IsAll a (reached.input ++ taken old new)) failed sink_failed fell (record {
-    progress = come_to;
-    lines = reached.out ++ line;
-    rest = new.pending;
-    last = [];
-    came = came_next reached.input reached.out line before come_to old new command reached.came steps.kept spells acts;
-    due = inl refl;
-    front = front_of reached.out line front more parts;
-  }),
-)
+pub ended_breaking : (a b h k m : Option Bytes) (due : Bytes) (state : State) (progress : Progress) (failed sink_failed later : Type 0)
+    → Reached a b h k due state progress → Breaks k m due sink_failed → (sink_failed → later) → Did 5 a b h m failed later
+ended_breaking a b h k m due state progress failed sink_failed later reached breaks sink_later =
+    let writes = breaks.writes in (
+      reached.input,
+      reached.out ++ writes.front,
+      record { exact = λ one. absurd cc; too_long = λ e. absurd (omega arith); taken = inl reached.took },
+      Appends-trans h k m reached.out writes.front reached.wrote writes.wrote,
+      broken_checked reached.input (reached.out ++ writes.front) (IsAll a reached.input) failed later (sink_later breaks.failed) (record {
+        progress = progress;
+        lines = reached.out ++ due;
+        rest = state.pending;
+        last = [];
+        came = reached.came;
+        due = inl refl;
+        front = broken_at due writes.front breaks.rest reached.out writes.parts;
+      }),
+    )
 
--- ---- the last lines
-
-pub record Sent (status result : ℕ) (last : Bytes) (held_old held_new : Option Bytes) (sink_failed : Type 0) : Type 0 where
+pub record Sent (status result : ℕ) (text : Bytes) (held_old held_new : Option Bytes) (sink_failed : Type 0) : Type 0 where
   pub out : Bytes
   pub wrote : Appends held_old held_new out
-  pub sends : Sends status last result out sink_failed
+  pub sends : Sends status text result out sink_failed
+
+-- ---- want of memory, once what was due is sent
+
+pub ended_memory : (a b c h k m : Option Bytes) (due : Bytes) (old new : State) (before : Progress) (result : ℕ) (failed sink_failed later : Type 0)
+    → Reached a b h k due old before → Steps b c old new → (sink_failed → later) → Sent 6 result due k m sink_failed → Did result a c h m failed later
+ended_memory a b c h k m due old new before result failed sink_failed later reached steps sink_later sent = by sent.sends
+  where
+    input : Bytes
+    input = reached.input ++ taken old new
+
+    came : Came input before (reached.out ++ due) (bytes_of new)
+    came = came_still reached.input (reached.out ++ due) before old new reached.came steps.kept
+
+    by : Sends 6 due result sent.out sink_failed → Did result a c h m failed later
+    by (inl whole) =
+        let same : reached.out ++ due ≡ reached.out ++ sent.out = ap (λ (l : Bytes). reached.out ++ l) (sym whole.1) in
+        subst (λ (s : ℕ). Did s a c h m failed later) (sym whole.0) (
+          input,
+          reached.out ++ sent.out,
+          takes_after 6 a b c reached.input old new reached.size reached.took steps (λ one. absurd cc) (λ e. absurd (omega arith)),
+          Appends-trans h k m reached.out sent.out reached.wrote sent.wrote,
+          stopped_checked input (reached.out ++ sent.out) (IsAll a input) failed later
+              (record { progress = before; rest = bytes_of new; came = subst (λ (l : Bytes). Came input before l (bytes_of new)) same came }),
+        )
+    by (inr broke) =
+        subst (λ (s : ℕ). Did s a c h m failed later) (sym broke.0) (
+          input,
+          reached.out ++ sent.out,
+          takes_after 5 a b c reached.input old new reached.size reached.took steps (λ one. absurd cc) (λ e. absurd (omega arith)),
+          Appends-trans h k m reached.out sent.out reached.wrote sent.wrote,
+          broken_checked input (reached.out ++ sent.out) (IsAll a input) failed later (sink_later broke.1) (record {
+            progress = before;
+            lines = reached.out ++ due;
+            rest = bytes_of new;
+            last = [];
+            came = came;
+            due = inl refl;
+            front = broken_at due sent.out broke.2.0 reached.out broke.2.1;
+          }),
+        )
+
+-- ---- the last lines
 
 ends_after : (a b c : Option Bytes) (input last : Bytes) (old new : State) (before : Progress) (failed later : Type 0) (status : ℕ) → length input ≡ old.place + length old.pending → Consumes a b input
     → (old.over ≡ true → IsAll a input) → Steps b c old new → (status ≢ 7 → Consumes b c (taken old new)) → (failed → later) → Ends old.place (new.over ≡ true) failed before (bytes_of new) last status
@@ -172,13 +200,13 @@ ends_after a b c input last old new before failed later status size took all ste
 not_seven : (status : ℕ) → IsOneOf exact_statuses status → status ≢ 7
 not_seven status one is = let seven : IsOneOf exact_statuses 7 = subst (IsOneOf exact_statuses) is one in absurd cc
 
-last_front : (lines last out : Bytes) → IsFront out last → IsFront (lines ++ out) (lines ++ last)
-last_front lines last out front = (front.0, ap (λ (l : Bytes). lines ++ l) front.1 ∙ sym (append_assoc lines out front.0))
+last_front : (lines due last out : Bytes) → IsFront out (due ++ last) → IsFront (lines ++ out) ((lines ++ due) ++ last)
+last_front lines due last out front = (front.0, append_assoc lines due last ∙ ap (λ (l : Bytes). lines ++ l) front.1 ∙ sym (append_assoc lines out front.0))
 
-pub ended_last : (a b c h k m : Option Bytes) (f0 f1 f2 : ℕ) (old new : State) (before : Progress) (last : Bytes) (status result : ℕ) (sink_failed later : Type 0)
-    → Reached a b h k old before → Steps b c old new → (status ≡ 7 → OneMore (new.place + length new.pending) b c (taken old new)) × (status ≢ 7 → Consumes b c (taken old new))
-    → f0 ≤ f1 → Ends old.place (new.over ≡ true) (Rises f1 f2) before (bytes_of new) last status → (sink_failed → later) → Sent status result last k m sink_failed → Did result a c h m (Rises f0 f2) later
-ended_last a b c h k m f0 f1 f2 old new before last status result sink_failed later reached steps takes falls_not ends sink_later sent = by sent.sends
+pub ended_last : (a b c h k m : Option Bytes) (f0 f1 f2 : ℕ) (due : Bytes) (old new : State) (before : Progress) (last : Bytes) (status result : ℕ) (sink_failed later : Type 0)
+    → Reached a b h k due old before → Steps b c old new → (status ≡ 7 → OneMore (new.place + length new.pending) b c (taken old new)) × (status ≢ 7 → Consumes b c (taken old new))
+    → f0 ≤ f1 → Ends old.place (new.over ≡ true) (Rises f1 f2) before (bytes_of new) last status → (sink_failed → later) → Sent status result (due ++ last) k m sink_failed → Did result a c h m (Rises f0 f2) later
+ended_last a b c h k m f0 f1 f2 due old new before last status result sink_failed later reached steps takes falls_not ends sink_later sent = by sent.sends
   where
     input : Bytes
     input = reached.input ++ taken old new
@@ -186,8 +214,8 @@ ended_last a b c h k m f0 f1 f2 old new before last status result sink_failed la
     ends_here : EndsAt input (IsAll a input) (Rises f0 f2) before (bytes_of new) last status
     ends_here = ends_after a b c reached.input last old new before (Rises f1 f2) (Rises f0 f2) status reached.size reached.took reached.all steps takes.1 (Rises-later f0 f1 f2 falls_not) ends
 
-    came : Came input before reached.out (bytes_of new)
-    came = came_still reached.input reached.out before old new reached.came steps.kept
+    came : Came input before (reached.out ++ due) (bytes_of new)
+    came = came_still reached.input (reached.out ++ due) before old new reached.came steps.kept
 
     ending : IsEnding status
     ending = ends_ending old.place (new.over ≡ true) (Rises f1 f2) before (bytes_of new) last status ends
@@ -195,16 +223,16 @@ ended_last a b c h k m f0 f1 f2 old new before last status result sink_failed la
     took : (s : ℕ) → (IsOneOf exact_statuses s → Consumes b c (taken old new)) → (s ≡ 7 → OneMore (new.place + length new.pending) b c (taken old new)) → Takes s a c input
     took s exact long = takes_after s a b c reached.input old new reached.size reached.took steps exact long
 
-    by : Sends status last result sent.out sink_failed → Did result a c h m (Rises f0 f2) later
+    by : Sends status (due ++ last) result sent.out sink_failed → Did result a c h m (Rises f0 f2) later
     by (inl whole) =
-        let whole_out : reached.out ++ sent.out ≡ reached.out ++ last = ap (λ (l : Bytes). reached.out ++ l) whole.1 in
+        let whole_out : reached.out ++ sent.out ≡ (reached.out ++ due) ++ last = ap (λ (l : Bytes). reached.out ++ l) whole.1 ∙ sym (append_assoc reached.out due last) in
         subst (λ (s : ℕ). Did s a c h m (Rises f0 f2) later) (sym whole.0) (
           input,
           reached.out ++ sent.out,
           took status (λ one. takes.1 (not_seven status one)) takes.0,
           Appends-trans h k m reached.out sent.out reached.wrote sent.wrote,
           whole_checked status input (reached.out ++ sent.out) (IsAll a input) (Rises f0 f2) later ending
-              (record { progress = before; lines = reached.out; rest = bytes_of new; last = last; came = came; ends = ends_here; out_is = whole_out }),
+              (record { progress = before; lines = reached.out ++ due; rest = bytes_of new; last = last; came = came; ends = ends_here; out_is = whole_out }),
         )
     by (inr failed) =
         subst (λ (s : ℕ). Did s a c h m (Rises f0 f2) later) (sym failed.0) (
@@ -213,5 +241,5 @@ ended_last a b c h k m f0 f1 f2 old new before last status result sink_failed la
           took 5 (λ one. absurd cc) (λ e. absurd (omega arith)),
           Appends-trans h k m reached.out sent.out reached.wrote sent.wrote,
           broken_checked input (reached.out ++ sent.out) (IsAll a input) (Rises f0 f2) later (sink_later failed.1)
-              (record { progress = before; lines = reached.out; rest = bytes_of new; last = last; came = came; due = inr (status, ends_here); front = last_front reached.out last sent.out failed.2 }),
+              (record { progress = before; lines = reached.out ++ due; rest = bytes_of new; last = last; came = came; due = inr (status, ends_here); front = last_front reached.out due last sent.out failed.2 }),
         )

@@ -4,3 +4,5 @@ pub mod Rows
 pub mod Reached
 pub mod Turned
 pub mod Ended
+pub mod AtHand
+pub mod Writing

@@ -1,5 +1,5 @@
 -- How far the loop of a check has come, and what follows once it ends.
-use Rattle.std.proofs.Common.{◌≡◌, ◌+◌, ◌-◌, ◌≤◌, Bool, true, false, [], ◌∷◌, ◌++◌, length, Option, None, Some, refl, sym, ap, subst, ◌∙◌, arith, append-nil, length-append}
+use Rattle.std.proofs.Common.{◌≡◌, ◌+◌, ◌-◌, ◌≤◌, Bool, true, false, [], ◌∷◌, ◌++◌, length, Option, None, Some, refl, sym, ap, subst, ◌∙◌, arith, append-nil, append_assoc, length-append}
 use Rattle.std.specs.Prelude.{IfSome}
 use Rattle.std.specs.Io.KnownBytes.{Consumes, Appends}
 use Rattle.std.proofs.KnownBytes.{Consumes-nil, Consumes-trans, Appends-nil, Appends-trans}
@@ -10,23 +10,26 @@ use Rattle.stream.specs.State.{State, bytes_of, taken, input_limit}
 use Rattle.check_stream.specs.Acts.{Acts}
 use Rattle.check_stream.specs.Checks.{Came, IsAll}
 use Rattle.check_stream.specs.Progress.{Progress, at_first}
+use Rattle.check_stream.specs.Sends.{Writes}
 use Rattle.check_stream.specs.Turns.{Steps}
 use Rattle.check_stream.proofs.Rows.{came_first, came_next}
 
--- the bytes that were taken and written so far, and what they were for
-pub record Reached (left_old left_now held_old held_now : Option Bytes) (state : State) (progress : Progress) : Type 0 where
+-- the bytes that were taken and written so far, those that are due, and what they were for
+pub record Reached (left_old left_now held_old held_now : Option Bytes) (due : Bytes) (state : State) (progress : Progress) : Type 0 where
   pub input : Bytes
   pub out : Bytes
   pub took : Consumes left_old left_now input
   pub wrote : Appends held_old held_now out
-  pub came : Came input progress out state.pending
+  pub came : Came input progress (out ++ due) state.pending
   pub size : length input ≡ state.place + length state.pending
   pub within : state.place + length state.pending ≤ input_limit
   pub all : state.over ≡ true → IsAll left_old input
 
-pub reached_first : (left held : Option Bytes) (state : State) (progress : Progress) → state ≡ record { last = []; pending = []; place = 0; over = false } → progress ≡ at_first → Reached left left held held state progress
-reached_first left held state progress state_is progress_is =
-    subst (λ (s : State). Reached left left held held s progress) (sym state_is) (subst (λ (p : Progress). Reached left left held held (record { last = []; pending = []; place = 0; over = false }) p) (sym progress_is) (record {
+pub reached_first : (left held : Option Bytes) (due : Bytes) (state : State) (progress : Progress) → due ≡ [] → state ≡ record { last = []; pending = []; place = 0; over = false } → progress ≡ at_first
+    → Reached left left held held due state progress
+reached_first left held due state progress due_is state_is progress_is =
+    subst (λ (d : Bytes). Reached left left held held d state progress) (sym due_is) (subst (λ (s : State). Reached left left held held [] s progress) (sym state_is)
+    (subst (λ (p : Progress). Reached left left held held [] (record { last = []; pending = []; place = 0; over = false }) p) (sym progress_is) (record {
       input = [];
       out = [];
       took = Consumes-nil left;
@@ -35,7 +38,7 @@ reached_first left held state progress state_is progress_is =
       size = refl;
       within = omega arith;
       all = λ e. absurd cc;
-    }))
+    })))
 
 -- ---- sizes
 
@@ -88,16 +91,32 @@ all_after a b c input old new took more all steps over = by old.over refl
 
 -- ---- a turn more
 
-pub reached_next : (left_old left_mid left_new held_old held_mid held_new : Option Bytes) (old new : State) (before come_to : Progress) (lines : Bytes) (command : Command)
-    → Reached left_old left_mid held_old held_mid old before → Steps left_mid left_new old new → Consumes left_mid left_new (taken old new)
-    → Spells 0 new.last command → Acts before new.last command lines come_to → Appends held_mid held_new lines → Reached left_old left_new held_old held_new new come_to
-reached_next left_old left_mid left_new held_old held_mid held_new old new before come_to lines command reached steps took spells acts wrote = record {
+-- the lines of one more command are due
+pub reached_next : (left_old left_mid left_new held_old held_now : Option Bytes) (due : Bytes) (old new : State) (before come_to : Progress) (lines : Bytes) (command : Command)
+    → Reached left_old left_mid held_old held_now due old before → Steps left_mid left_new old new → Consumes left_mid left_new (taken old new)
+    → Spells 0 new.last command → Acts before new.last command lines come_to → Reached left_old left_new held_old held_now (due ++ lines) new come_to
+reached_next left_old left_mid left_new held_old held_now due old new before come_to lines command reached steps took spells acts = record {
   input = reached.input ++ taken old new;
-  out = reached.out ++ lines;
+  out = reached.out;
   took = Consumes-trans left_old left_mid left_new reached.input (taken old new) reached.took took;
-  wrote = Appends-trans held_old held_mid held_new reached.out lines reached.wrote wrote;
-  came = came_next reached.input reached.out lines before come_to old new command reached.came steps.kept spells acts;
+  wrote = reached.wrote;
+  came = subst (λ (l : Bytes). Came (reached.input ++ taken old new) come_to l new.pending) (append_assoc reached.out due lines)
+      (came_next reached.input (reached.out ++ due) lines before come_to old new command reached.came steps.kept spells acts);
   size = size_after reached.input old new reached.size steps.kept steps.place;
   within = steps.within;
   all = all_after left_old left_mid left_new reached.input old new reached.took took reached.all steps;
+}
+
+-- a front of what is due was written
+pub reached_writes : (left_old left_now held_old held_mid held_new : Option Bytes) (due rest : Bytes) (state : State) (progress : Progress)
+    → Reached left_old left_now held_old held_mid due state progress → Writes held_mid held_new due rest → Reached left_old left_now held_old held_new rest state progress
+reached_writes left_old left_now held_old held_mid held_new due rest state progress reached writes = record {
+  input = reached.input;
+  out = reached.out ++ writes.front;
+  took = reached.took;
+  wrote = Appends-trans held_old held_mid held_new reached.out writes.front reached.wrote writes.wrote;
+  came = subst (λ (l : Bytes). Came reached.input progress l state.pending) (ap (λ (l : Bytes). reached.out ++ l) writes.parts ∙ sym (append_assoc reached.out writes.front rest)) reached.came;
+  size = reached.size;
+  within = reached.within;
+  all = reached.all;
 }

@@ -1,5 +1,5 @@
 -- What one turn of a check does: the next command, and what is written for it.
-use Rattle.std.specs.Prelude.{◌≡◌, ◌≢◌, ◌⊎◌, ◌+◌, ◌≤◌, ℕ, Bool, true, false, ◌∷◌, ◌++◌, length, Option, IfSome, ⊤}
+use Rattle.std.specs.Prelude.{◌≡◌, ◌≢◌, ◌⊎◌, ◌+◌, ◌≤◌, ℕ, Bool, true, false, [], ◌∷◌, ◌++◌, length, Option, Some, None, IfSome, ⊤}
 use Rattle.std.specs.Io.KnownBytes.{Consumes}
 use Rattle.rv_names.specs.Keys.{Bytes}
 use Rattle.script.specs.declared.command.Command.{Command}
@@ -47,6 +47,24 @@ Stops failed new (faults.Malformed at) = (at ≡ new.place) × IsNone new.pendin
 Stops failed new faults.ReadFault = failed × StartsTaken new.pending × IsWaiting new.pending new.over
 Stops failed new faults.TooLong = (new.place + length new.pending ≡ input_limit) × StartsTaken new.pending × IsWaiting new.pending new.over
 Stops failed new faults.Memory = ⊤
+
+-- ---- the next command, where it is at hand
+
+-- the stream before and after a step without a read
+pub record StepsAtHand (old new : State) : Type 0 where
+  pub kept : bytes_of new ≡ old.pending
+  pub place : new.place ≡ old.place + length new.last
+  pub within : new.place + length new.pending ≤ input_limit
+  pub over : new.over ≡ old.over
+
+-- nothing was read or acted on
+abbrev pub IsStill : State → State → Type 0
+IsStill old new = record new { last = [] } ≡ record old { last = [] }
+
+-- a command at hand is acted on, or nothing is done
+abbrev pub FetchesAtHand : State → State → Option Command → Type 0
+FetchesAtHand old new (Some command) = StepsAtHand old new × Spells 0 new.last command × IsTaken command
+FetchesAtHand old new None = IsStill old new
 
 -- ---- what is written
 

@@ -7,17 +7,18 @@ ghost use Rattle.rv_io.specs.Counts.{Rises};
 ghost use Rattle.check_stream.specs.Checks.{Checked, IsAll, Takes};
 ghost use Rattle.check_stream.specs.Progress.{at_first};
 
+use crate::outbox::{post, send_last};
 use crate::sending::send;
 use crate::session::Session;
 use crate::statuses::{NO_MEMORY, SINK_FAILED};
-use crate::turn::{Turn, take_turn};
-use rv_io::{Sink, Source, write_all};
+use crate::turn::{Stop, Turn, next_turn};
+use rv_io::{Sink, Source};
 use std::alloc::Global;
 use std::mem::forget;
 use stream::Stream;
 
 /// A whole check: acts on the commands of the source's input one after the other, and writes the line of each before it
-/// reads on.
+/// reads on. The lines of commands that came in one piece go out in one write, unless they are much.
 ///
 /// A `put` or a `drop` that is kept is answered by `edit` and its number, from 1; one that is refused changes no file, and
 /// is answered by its first cause. A `sync` is answered by how many edits were kept. What ends the check:
@@ -70,14 +71,16 @@ fn take_turns<S: Source, K: Sink>(
     ensures sink_never_falls { K.faults sink.old ≤ K.faults sink.new }
 {
     let mut stream = Stream::new(alloc);
+    let mut due = Vec::new(alloc);
     loop {
-        match take_turn(alloc, session, &mut stream, source) {
-            Ok(Turn::Lines(lines)) => match write_all(sink, &lines) {
+        match next_turn(alloc, session, &mut stream, source, &mut due, sink) {
+            Ok(Turn::Lines(lines)) => match post(sink, &mut due, &lines) {
                 Ok(()) => {}
                 Err(_) => return SINK_FAILED,
             },
-            Ok(Turn::Last { lines, status }) => return send(sink, &lines, status),
-            Err(_) => return NO_MEMORY,
+            Ok(Turn::Last { lines, status }) => return send_last(sink, &mut due, &lines, status),
+            Err(Stop::Memory) => return send(sink, &due, NO_MEMORY),
+            Err(Stop::Sink) => return SINK_FAILED,
         }
     }
 }

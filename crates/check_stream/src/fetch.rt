@@ -7,7 +7,7 @@ ghost use Rattle.script.specs.Grammar.{Spells};
 ghost use Rattle.stream.specs.State.{taken};
 ghost use Rattle.check_stream.specs.Checks.{OneMore};
 ghost use Rattle.check_stream.specs.Ends.{run_byte};
-ghost use Rattle.check_stream.specs.Turns.{IsTaken, Steps, Stops};
+ghost use Rattle.check_stream.specs.Turns.{FetchesAtHand, IsTaken, Steps, Stops};
 
 use rv_io::Source;
 use script::Command;
@@ -39,4 +39,19 @@ pub fn fetch<S: Source>(stream: &mut Stream, source: &mut S) -> Result<Command, 
         return Err(StreamFault::Malformed { at: stream.place() });
     }
     stream.next(source)
+}
+
+/// The next command, where the bytes at hand hold it whole and a check takes it. Where this is None, nothing was acted on,
+/// and `fetch` tells what comes next: at a `run` too, at bytes of which no command can come, and where there was no memory.
+pub fn fetch_at_hand(stream: &mut Stream) -> Option<Command>
+    ensures { FetchesAtHand stream.old stream.new result }
+{
+    let first = stream.pending().first().copied()?;
+    if is_run(first) {
+        return None;
+    }
+    match stream.next_at_hand() {
+        Ok(command) => command,
+        Err(_) => None,
+    }
 }

@@ -3,6 +3,7 @@
 //! * `checking`: `check_call`, a whole check from a source to a sink;
 //! * `turn`: the next command of the stream, and what is written for it;
 //! * `session`: what a check has come to, and what a command makes of it;
+//! * `outbox`: the lines that are due, and how they are written;
 //! * `sending`: `send`, the last text of a program;
 //! * `fetch`: the next command that a check takes;
 //! * `statuses`: how a check ends.
@@ -10,6 +11,7 @@
 
 mod checking;
 mod fetch;
+mod outbox;
 mod sending;
 mod session;
 mod statuses;

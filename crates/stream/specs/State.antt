@@ -1,8 +1,9 @@
 -- What a stream of commands holds, and what one step of it says.
-use Rattle.std.specs.Prelude.{◌≡◌, ◌⊎◌, ◌+◌, ◌≤◌, ◌^◌, ℕ, Bool, false, List, [], ◌∷◌, ◌++◌, length, drop, ⊤, Option, IfSome}
+use Rattle.std.specs.Prelude.{◌≡◌, ◌⊎◌, ◌+◌, ◌≤◌, ◌^◌, ℕ, Bool, false, List, [], ◌∷◌, ◌++◌, length, drop, ⊤, Option, Some, None, IfSome}
 use Rattle.std.specs.Io.KnownBytes.{Consumes}
 use Rattle.script.specs.declared.command.Command.{Command}
 use Rattle.script.specs.declared.command.Command.TheVariants as commands
+use Rattle.script.specs.Grammar.{Spells}
 use Rattle.script.specs.Stream.{BeginsNone, IsUnfinished}
 use Rattle.stream.specs.declared.fault.StreamFault.{StreamFault}
 use Rattle.stream.specs.declared.fault.StreamFault.TheVariants.{Malformed, ReadFault, TooLong, Memory}
@@ -12,7 +13,7 @@ abbrev pub input_limit : ℕ
 input_limit = 2 ^ 29
 
 pub record State : Type 0 where
-  -- the bytes of the command that the last step gave; none after an error or a peek
+  -- the bytes of the command that the last step gave; none where it gave none
   pub last : List ℕ
   -- the bytes that were read and not acted on
   pub pending : List ℕ
@@ -68,6 +69,11 @@ EndsInText bytes (commands.Ask session query) = ⊤
 EndsInText bytes commands.Sync = ⊤
 EndsInText bytes (commands.Run fuel calls draws) = ⊤
 EndsInText bytes commands.End = ⊤
+
+-- what the bytes at hand begin with: a command, which is acted on, or nothing yet
+abbrev pub IsAtHand : State → Option Command → Type 0
+IsAtHand new (Some command) = Spells 0 new.last command × EndsInText new.last command
+IsAtHand new None = (new.last ≡ []) × IsWaiting new.pending new.over
 
 -- where the source told the bytes that were left, a buffer has gained all of them
 abbrev pub GainsAll : Option (List ℕ) → List ℕ → List ℕ → Type 0

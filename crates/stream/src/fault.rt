@@ -3,7 +3,8 @@
 use std::error::Error;
 use std::fmt;
 
-/// Why `Stream::next` gives no command, or `Stream::peek` no byte. All places are offsets in the whole input, from 0.
+/// Why `Stream::next` or `Stream::next_at_hand` gives no command, or `Stream::peek` no byte. All places are offsets in the
+/// whole input, from 0.
 #[derive(Clone, Copy, Debug, PartialEq, Eq)]
 pub enum StreamFault {
     /// No command begins at the place `at`, or the input ended before one was whole.

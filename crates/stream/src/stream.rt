@@ -5,12 +5,14 @@ ghost use Rattle.std.specs.Io.KnownBytes.{Consumes};
 ghost use Rattle.rv_io.specs.Counts.{Rises};
 ghost use Rattle.script.specs.Grammar.{Spells};
 ghost use Rattle.script.specs.Stream.{BeginsNone, IsUnfinished};
-ghost use Rattle.stream.specs.State.{bytes_of, taken, IsNeeded, IsCause, EndsInText, ConsumesOneMore};
+ghost use Rattle.stream.specs.State.{bytes_of, taken, IsNeeded, IsAtHand, IsCause, EndsInText, ConsumesOneMore};
+ghost use Rattle.stream.specs.Steps.{IsRefusal};
 
+use crate::asking::first;
 use crate::fault::StreamFault;
 use crate::reading::{read_first, read_next};
 use rv_io::Source;
-use script::Command;
+use script::{Command, Next};
 use std::alloc::Global;
 use std::marker::Model;
 
@@ -64,7 +66,7 @@ impl Stream {
         }
     }
 
-    /// The bytes of the command that `next` gave last: none before the first command, after an error and after a `peek`.
+    /// The bytes of the command that was given last: none before the first one, after a `peek`, and where none was given.
     /// The text of a `put` is `bytes()[from..from + len]`.
     pub fn bytes(&self) -> &[u8]
         ensures { result.now ≡ self.now.last }
@@ -132,6 +134,39 @@ impl Stream {
         self.last = self.start;
         asked?;
         Ok(self.pending().first().copied())
+    }
+
+    /// The next command, where the bytes at hand hold it whole; None where a command can still come of them. The source
+    /// isn't asked: where this is None, `next` reads on. The `from` of a `put` is a place in the command's own bytes.
+    ///
+    /// Where no command is given, nothing is acted on, and the bytes of the last one are given up. `Malformed` where the
+    /// bytes at `place` begin with no command and none can come of them, or the input ended, as `next` would tell it;
+    /// `Memory` where there was no memory; never `ReadFault` or `TooLong`. The cost is linear in the command, and where none
+    /// is given in a line.
+    pub fn next_at_hand(&mut self) -> Result<Option<Command>, StreamFault>
+        // What was pending is held now, and nothing was read.
+        ensures kept { bytes_of self.new ≡ self.old.pending }
+        ensures over { self.new.over ≡ self.old.over }
+        ensures within { self.new.place + length self.new.pending ≤ 2 ^ 29 }
+
+        // The command is what the last bytes spell, and it alone is acted on.
+        ensures found { IfOk result (IsAtHand self.new) }
+        ensures place { self.new.place ≡ self.old.place + length self.new.last }
+        ensures empty { OnErr result (self.new.last ≡ []) }
+
+        // Each error has its cause.
+        ensures cause { IfErr result (IsRefusal self.new.place self.new.pending self.new.over) }
+    {
+        self.last = self.start;
+        let (next, len) = first(self.alloc, self.pending(), self.place, self.over)?;
+        match next {
+            Next::Command(command) => {
+                self.start += len;
+                self.place += len;
+                Ok(Some(command))
+            }
+            Next::Need(_) => Ok(None),
+        }
     }
 
     /// The next command of the input. The `from` of a `put` is a place in the command's own bytes.

@@ -104,3 +104,23 @@ fn a_read_that_fails_loses_nothing(rt: HostRuntime) -> Result<(), Fail> {
     assert_eq!(rt; line.as_str(), "malformed 7");
     Ok(())
 }
+
+#[test]
+fn what_is_at_hand_needs_no_read(rt: HostRuntime) -> Result<(), Fail> {
+    let input = b"sync\nput a.py 5\nx = 1\nen".to_vec(rt.alloc())?;
+    let mut source = MemSource::new(input, 300, Vec::new(rt.alloc()));
+    let mut stream = Stream::new(rt.alloc());
+    assert!(rt; stream.next_at_hand()?.is_none());
+    assert_eq!(rt; stream.peek(&mut source)?, Some(b's'));
+    assert!(rt; stream.next_at_hand()?.is_some());
+    assert_eq!(rt; stream.bytes(), b"sync\n".as_slice());
+    assert!(rt; stream.next_at_hand()?.is_some());
+    assert_eq!(rt; stream.bytes(), b"put a.py 5\nx = 1\n".as_slice());
+    // Of these bytes an `end` can still come, until the source tells its end.
+    assert!(rt; stream.next_at_hand()?.is_none());
+    assert_eq!(rt; stream.pending(), b"en".as_slice());
+    let malformed = Some(StreamFault::Malformed { at: 22 });
+    assert_eq!(rt; stream.next(&mut source).err(), malformed);
+    assert_eq!(rt; stream.next_at_hand().err(), malformed);
+    Ok(())
+}
