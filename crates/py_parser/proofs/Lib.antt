@@ -1,2 +1,4 @@
+pub mod Added
+pub mod Lined
 pub mod Inside
 pub mod Verdicts

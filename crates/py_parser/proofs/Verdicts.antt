@@ -14,6 +14,8 @@ use Rattle.later_forms.specs.Later.{told_on_line, told_before}
 use Rattle.py_ast.specs.Files.{file, module_of}
 use Rattle.py_ast.specs.declared.statement.Stmt.{Stmt}
 use Rattle.py_ast.proofs.FileLaws.{file-means}
+use Rattle.py_parser.specs.Lists.{with_all}
+use Rattle.py_parser.proofs.Added.{all_read, all_stuck}
 use Rattle.py_parser.specs.Faults.{IsModule, Ends, SyntaxStop, StopPlace, IsSyntax, IsUnsupported, IsTooDeep, StandsAt, Tells}
 
 means : (ts : List Token) (o : Outcome Token (List (List Stmt))) → o ≡ (file 100).read ts → Means file 100 ts o
@@ -22,10 +24,10 @@ means ts o e = rw e (file-means 100 ts)
 whole : (ts : List Token) (lines : List (List Stmt)) → Longest file 100 ts lines [] → (file 100).Spells ts lines
 whole ts lines l = rw (l.split ∙ append_none l.run) l.spelled
 
-pub is_module : (ts : List Token) (lines : List (List Stmt)) → (file 100).read ts ≡ Read lines [] → IsModule ts (module_of lines)
+is_module : (ts : List Token) (lines : List (List Stmt)) → (file 100).read ts ≡ Read lines [] → IsModule ts (module_of lines)
 is_module ts lines e = (lines, whole ts lines (means ts (Read lines []) (sym e)), refl)
 
-pub stops_behind : (ts : List Token) (lines : List (List Stmt)) (t : Token) (rest : List Token) → (file 100).read ts ≡ Read lines (t ∷ rest) → SyntaxStop ts (t ∷ rest)
+stops_behind : (ts : List Token) (lines : List (List Stmt)) (t : Token) (rest : List Token) → (file 100).read ts ≡ Read lines (t ∷ rest) → SyntaxStop ts (t ∷ rest)
 stops_behind ts lines t rest e =
     let l = means ts (Read lines (t ∷ rest)) (sym e) in
     record {
@@ -40,13 +42,13 @@ ends-of : (ts rest : List Token) (s : StopsAt file 100 ts rest) → Ends s.run r
 ends-of ts [] s = s.unspelled
 ends-of ts (t ∷ rest) s = s.ends
 
-pub stops_inside : (ts rest : List Token) → (file 100).read ts ≡ Stuck Syntax rest → SyntaxStop ts rest
+pub stops_inside : (ts rest : List Token) → with_all [] ((file 100).read ts) ≡ Stuck Syntax rest → SyntaxStop ts rest
 stops_inside ts rest e =
-    let s : StopsAt file 100 ts rest = means ts (Stuck Syntax rest) (sym e) in
+    let s : StopsAt file 100 ts rest = means ts (Stuck Syntax rest) (sym (all_stuck ((file 100).read ts) Syntax rest e)) in
     record { run = s.run; split = s.split; viable = s.viable; ends = ends-of ts rest s; shallow = s.shallow }
 
-pub too_deep : (ts rest : List Token) → (file 100).read ts ≡ Stuck TooDeep rest → TooDeepAt file 100 ts rest
-too_deep ts rest e = means ts (Stuck TooDeep rest) (sym e)
+pub too_deep : (ts rest : List Token) → with_all [] ((file 100).read ts) ≡ Stuck TooDeep rest → TooDeepAt file 100 ts rest
+too_deep ts rest e = means ts (Stuck TooDeep rest) (sym (all_stuck ((file 100).read ts) TooDeep rest e))
 
 -- ---- the run before the stop
 
@@ -58,9 +60,12 @@ rest_fits ts run rest e = rw e (omega (arith, length-append run rest))
 
 -- ---- what was read
 
-pub module_read : (ts : List Token) (lines : List (List Stmt)) (rest : List Token) (body : List Stmt) → (file 100).read ts ≡ Read lines rest → length rest < 1 → body ≡ flat_map (λ line. line) lines → IsModule ts (record { body = body })
-module_read ts lines [] body e n b = rw b (is_module ts lines e)
-module_read ts lines (t ∷ rest) body e n b = absurd (omega arith)
+module_ends : (ts : List Token) (lines : List (List Stmt)) (rest : List Token) (body : List Stmt) → (file 100).read ts ≡ Read lines rest → length rest < 1 → body ≡ flat_map (λ line. line) lines → IsModule ts (record { body = body })
+module_ends ts lines [] body e n b = rw b (is_module ts lines e)
+module_ends ts lines (t ∷ rest) body e n b = absurd (omega arith)
+
+pub module_read : (ts rest : List Token) (body : List Stmt) → with_all [] ((file 100).read ts) ≡ Read body rest → length rest < 1 → IsModule ts (record { body = body })
+module_read ts rest body e n = let (lines, read, b) = all_read ((file 100).read ts) body rest e in module_ends ts lines rest body read n b
 
 empty-read : (file 100).read [] ≡ Read [] []
 unfolding file
@@ -70,9 +75,12 @@ pub empty_is : (ts : List Token) (body : List Stmt) → length ts ≡ 0 → body
 empty_is [] body n b = rw b (is_module [] [] empty-read)
 empty_is (t ∷ ts) body n b = absurd (omega arith)
 
-pub stops_left : (ts : List Token) (lines : List (List Stmt)) (rest : List Token) → (file 100).read ts ≡ Read lines rest → 0 < length rest → SyntaxStop ts rest
-stops_left ts lines [] e n = absurd (omega arith)
-stops_left ts lines (t ∷ rest) e n = stops_behind ts lines t rest e
+goes_on : (ts : List Token) (lines : List (List Stmt)) (rest : List Token) → (file 100).read ts ≡ Read lines rest → 0 < length rest → SyntaxStop ts rest
+goes_on ts lines [] e n = absurd (omega arith)
+goes_on ts lines (t ∷ rest) e n = stops_behind ts lines t rest e
+
+pub stops_left : (ts rest : List Token) (body : List Stmt) → with_all [] ((file 100).read ts) ≡ Read body rest → 0 < length rest → SyntaxStop ts rest
+stops_left ts rest body e n = let (lines, read, b) = all_read ((file 100).read ts) body rest e in goes_on ts lines rest read n
 
 -- ---- places and forms
 

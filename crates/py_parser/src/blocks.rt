@@ -6,13 +6,14 @@ ghost use Rattle.std.specs.Prelude.{◌≡◌, ◌<◌, ◌≤◌, ◌∷◌, []
 ghost use Rattle.phrases.specs.Sets.{has};
 ghost use Rattle.phrases.specs.Reading.{Read};
 ghost use Rattle.phrases.specs.Phrases.{many};
-ghost use Rattle.phrases.specs.Loops.{Gives};
+ghost use Rattle.phrases.specs.Loops.{Gives, with_front};
 ghost use Rattle.py_ast.specs.Kinds.{class};
 ghost use Rattle.py_ast.specs.Grammar.{mapped, expr};
 ghost use Rattle.py_ast.specs.Statements.{block, branch, else_block, if_stmt, while_stmt, for_stmt, names_anchor};
 ghost use Rattle.py_ast.specs.Files.{suites, compound, single};
 ghost use Rattle.py_parser.specs.Suites.{ReadsSuites};
 
+use crate::lines::with_room;
 use phrases::many;
 use py_ast::{Branch, NameAt, Stmt, StmtForm, Suite};
 use py_expr::class::class_of;
@@ -24,7 +25,7 @@ use py_simple::names::loop_names_of;
 use py_simple::simple::{NESTINGS, word_stmt};
 use py_simple::words::{COLON, ELIF, ELSE, FOR, IF, IN, WHILE};
 use sqlite_items::Items;
-use std::alloc::{AllocError, Global};
+use std::alloc::Global;
 
 /// What stands behind the `:` of a block, as the closure reads it.
 fn inner_suite_of<'a, S>(
@@ -258,33 +259,26 @@ where
     }
 }
 
-/// One statement, as a list.
-pub fn single(alloc: Global, statement: Stmt) -> Result<Items<Stmt>, AllocError>
-    ensures { IfOk result (λ all. all ≡ statement ∷ []) }
-{
-    // With room for no other, as nothing is added to most such lists.
-    let mut all = Vec::with_capacity(alloc, 1)?;
-    all.push_reserved(statement);
-    Ok(Items::from_vec(all))
-}
-
-/// An `if` or a loop, as the statements of a line.
+/// The statements, and then an `if` or a loop.
 #[tactic(auto, unfolding(py_ast::specs::Grammar::mapped))]
-pub fn single_compound_of<'a, S>(
+pub fn compound_into<'a, S>(
     alloc: Global,
     tokens: &'a [Token],
     room: u8,
     returns: bool,
     loops: bool,
     suite: &S,
-) -> Taken<'a, Items<Stmt>>
+    before: Vec<Stmt>,
+) -> Taken<'a, Vec<Stmt>>
 where
     S: Fn(Suite, &[Token]) -> Taken<'_, Items<Stmt>>,
     requires callable { S.IsAlwaysCallable suite.now }
     requires reads { ReadsSuites (λ s ts r. S.post suite.now s ts r) room }
-    ensures read { Gives (λ x. Read x.0 x.1.now) result ((mapped (compound (expr 100) room (suites 100 room) returns loops) single).read tokens.now) }
+    ensures read { Gives (λ x. Read x.0.items x.1.now) result (with_front before.items ((mapped (compound (expr 100) room (suites 100 room) returns loops) single).read tokens.now)) }
     ensures shorter { IfOk result (λ x. length x.1.now < length tokens.now) }
 {
     let (statement, rest) = compound_of(alloc, tokens, room, returns, loops, suite)?;
-    Ok((single(alloc, statement)?, rest))
+    let mut all = with_room(before, rest)?;
+    all.push_reserved(statement);
+    Ok((all, rest))
 }

@@ -2,7 +2,7 @@
 
 ghost use Rattle.std.specs.Prelude.{◌≡◌, ◌<◌, ◌≤◌, ◌∷◌, [], ℕ, true, false, List, IfOk, length};
 ghost use Rattle.phrases.specs.Reading.{Read};
-ghost use Rattle.phrases.specs.Loops.{Gives};
+ghost use Rattle.phrases.specs.Loops.{Gives, with_front};
 ghost use Rattle.py_ast.specs.Grammar.{mapped, expr};
 ghost use Rattle.py_ast.specs.Literals.{literal};
 ghost use Rattle.py_ast.specs.Statements.{function, class_stmt};
@@ -10,7 +10,8 @@ ghost use Rattle.py_ast.specs.Files.{suites, single, decorated_function, definit
 ghost use Rattle.py_ast.specs.declared.statement.Suite.TheVariants.{Body, Members};
 ghost use Rattle.py_parser.specs.Suites.{ReadsSuites};
 
-use crate::blocks::{block_of, single};
+use crate::blocks::block_of;
+use crate::lines::with_room;
 use py_ast::{Class, Decorator, Function, Stmt, StmtForm, Suite};
 use py_expr::token::{Taken, mark, stands};
 use py_lexer::Token;
@@ -103,23 +104,26 @@ where
     function_of(alloc, rest, room, decorators, suite)
 }
 
-/// A function of a class, as the statements of a line.
+/// The statements, and then a function of a class.
 #[tactic(auto, unfolding(py_ast::specs::Grammar::mapped))]
-pub fn single_function_of<'a, S>(
+pub fn function_into<'a, S>(
     alloc: Global,
     tokens: &'a [Token],
     room: u8,
     suite: &S,
-) -> Taken<'a, Items<Stmt>>
+    before: Vec<Stmt>,
+) -> Taken<'a, Vec<Stmt>>
 where
     S: Fn(Suite, &[Token]) -> Taken<'_, Items<Stmt>>,
     requires callable { S.IsAlwaysCallable suite.now }
     requires reads { ReadsSuites (λ s ts r. S.post suite.now s ts r) room }
-    ensures read { Gives (λ x. Read x.0 x.1.now) result ((mapped (decorated_function (expr 100) (literal 100) room (suites 100 room)) single).read tokens.now) }
+    ensures read { Gives (λ x. Read x.0.items x.1.now) result (with_front before.items ((mapped (decorated_function (expr 100) (literal 100) room (suites 100 room)) single).read tokens.now)) }
     ensures shorter { IfOk result (λ x. length x.1.now < length tokens.now) }
 {
     let (statement, rest) = decorated_function_of(alloc, tokens, room, suite)?;
-    Ok((single(alloc, statement)?, rest))
+    let mut all = with_room(before, rest)?;
+    all.push_reserved(statement);
+    Ok((all, rest))
 }
 
 /// A function or a class with these decorators.
@@ -162,21 +166,24 @@ where
     definition_of(alloc, rest, room, decorators, suite)
 }
 
-/// A function or a class, as the statements of a line.
+/// The statements, and then a function or a class.
 #[tactic(auto, unfolding(py_ast::specs::Grammar::mapped))]
-pub fn single_definition_of<'a, S>(
+pub fn definition_into<'a, S>(
     alloc: Global,
     tokens: &'a [Token],
     room: u8,
     suite: &S,
-) -> Taken<'a, Items<Stmt>>
+    before: Vec<Stmt>,
+) -> Taken<'a, Vec<Stmt>>
 where
     S: Fn(Suite, &[Token]) -> Taken<'_, Items<Stmt>>,
     requires callable { S.IsAlwaysCallable suite.now }
     requires reads { ReadsSuites (λ s ts r. S.post suite.now s ts r) room }
-    ensures read { Gives (λ x. Read x.0 x.1.now) result ((mapped (decorated (expr 100) (literal 100) room (suites 100 room)) single).read tokens.now) }
+    ensures read { Gives (λ x. Read x.0.items x.1.now) result (with_front before.items ((mapped (decorated (expr 100) (literal 100) room (suites 100 room)) single).read tokens.now)) }
     ensures shorter { IfOk result (λ x. length x.1.now < length tokens.now) }
 {
     let (statement, rest) = decorated_of(alloc, tokens, room, suite)?;
-    Ok((single(alloc, statement)?, rest))
+    let mut all = with_room(before, rest)?;
+    all.push_reserved(statement);
+    Ok((all, rest))
 }

@@ -6,7 +6,7 @@
 //! * `lines`: simple statements up to the end of a line;
 //! * `blocks`, `definitions`: statements with blocks;
 //! * `suites`: what stands behind the `:` of a block;
-//! * `lists`: lists of lists;
+//! * `lists`: lists to which what is read is added;
 //! * `files`: whole files;
 //! * `reading`: the module of a file, or its fault;
 //! * `parsing`: `parse` and `parse_with`, a text with its module, or the text's fault.

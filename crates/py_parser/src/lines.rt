@@ -1,17 +1,18 @@
 //! Lines of simple statements (Language Reference, chapter 7): a function for each production.
 
-ghost use Rattle.std.specs.Prelude.{◌≡◌, ◌<◌, ◌≤◌, ◌∷◌, [], ℕ, List, Option, Some, None, IfOk, length};
+ghost use Rattle.std.specs.Prelude.{◌≡◌, ◌<◌, ◌≤◌, ◌∷◌, [], ℕ, List, Option, Some, None, IfOk, length, vec_len, vec_capacity};
 ghost use Rattle.phrases.specs.Sets.{has, starts};
 ghost use Rattle.phrases.specs.Reading.{Read};
 ghost use Rattle.phrases.specs.Phrases.{token, sequence, either};
 ghost use Rattle.phrases.specs.Series.{series};
-ghost use Rattle.phrases.specs.Loops.{Gives};
+ghost use Rattle.phrases.specs.Loops.{Gives, with_front};
 ghost use Rattle.py_ast.specs.Kinds.{class, mark_of};
 ghost use Rattle.py_ast.specs.Grammar.{mapped, goes_past, expr};
 ghost use Rattle.py_ast.specs.Statements.{optional, assigned, annotated, further, line};
 ghost use Rattle.py_ast.specs.Files.{member_of, name_expr, ellipsis_of, member_simple, file_simple};
-ghost use Rattle.py_parser.specs.Lines.{simples, simples_first, simples_line};
+ghost use Rattle.py_parser.specs.Lines.{simples, simples_first, simples_line, behind};
 
+use crate::lists::appended;
 use phrases::series;
 use py_ast::{Constant, Expr, Form, NameAt, Stmt, Tail, given_after};
 use py_expr::class::class_of;
@@ -23,11 +24,11 @@ use py_simple::literals::texts_of;
 use py_simple::names::plain_name_of;
 use py_simple::simple::{annotated_of, assigned_of, begun_with, simple_of, word_token};
 use py_simple::words::{
-    ELLIPSIS, EQUAL, FROM, IMPORT, NAME, NEWLINE, SEMICOLON, begins_file_simple, begins_member,
-    begins_simple, stands_word,
+    DEDENT, ELLIPSIS, EQUAL, FROM, IMPORT, NAME, NEWLINE, SEMICOLON, begins_file_simple,
+    begins_member, begins_simple, stands_word,
 };
 use sqlite_items::Items;
-use std::alloc::Global;
+use std::alloc::{AllocError, Global};
 
 /// The simple statements that may stand on a line.
 #[derive(Clone, Copy, Debug, PartialEq, Eq)]
@@ -113,6 +114,7 @@ fn file_simple_of(alloc: Global, tokens: &[Token]) -> Taken<'_, Stmt>
 
 /// A simple statement.
 #[tactic(auto, unfolding(crate::specs::Lines::simples))]
+#[inline(always)]
 fn one_of(alloc: Global, tokens: &[Token], place: Simples) -> Taken<'_, Stmt>
     ensures read { Gives (λ x. Read x.0 x.1.now) result ((simples (expr 100) place).read tokens.now) }
     ensures shorter { IfOk result (λ x. length x.1.now < length tokens.now) }
@@ -188,14 +190,67 @@ fn all_further_of(
     )
 }
 
-/// A line of simple statements, up to its end. Linear in its tokens.
-#[tactic(auto, unfolding(py_ast::specs::Statements::line, py_ast::specs::Grammar::mapped, py_ast::specs::Grammar::ended))]
-pub fn line_of(alloc: Global, tokens: &[Token], place: Simples) -> Taken<'_, Items<Stmt>>
-    ensures read { Gives (λ x. Read x.0 x.1.now) result ((simples_line (expr 100) place).read tokens.now) }
+/// The statements, with room for one more, which was read up to `rest`: where a block ends there, for no other.
+fn with_more_room(before: Vec<Stmt>, rest: &[Token]) -> Result<Vec<Stmt>, AllocError>
+    ensures items { IfOk result (λ all. all.items ≡ before.items) }
+    ensures room { IfOk result (λ all. vec_len all < vec_capacity all) }
+{
+    let mut all = before;
+    if stands(rest, DEDENT) {
+        all.reserve_exact(1)?;
+        return Ok(all);
+    }
+    all.reserve(1)?;
+    Ok(all)
+}
+
+/// The statements, with room for one more, which was read up to `rest`.
+#[inline(always)]
+pub fn with_room(before: Vec<Stmt>, rest: &[Token]) -> Result<Vec<Stmt>, AllocError>
+    ensures items { IfOk result (λ all. all.items ≡ before.items) }
+    ensures room { IfOk result (λ all. vec_len all < vec_capacity all) }
+{
+    if before.len() < before.capacity() {
+        return Ok(before);
+    }
+    with_more_room(before, rest)
+}
+
+/// What stands on a line behind its first statement, where that isn't the end: the statements before the line, and then all of the line.
+#[tactic(auto, unfolding(py_ast::specs::Grammar::mapped, py_ast::specs::Grammar::ended))]
+fn several_into(
+    alloc: Global,
+    tokens: &[Token],
+    place: Simples,
+    first: Stmt,
+    before: Vec<Stmt>,
+) -> Taken<'_, Vec<Stmt>>
+    ensures read { Gives (λ x. Read x.0.items x.1.now) result (with_front before.items (behind (simples_first place) (simples (expr 100) place) first tokens.now)) }
+    ensures shorter { IfOk result (λ x. length x.1.now < length tokens.now) }
+{
+    let (others, rest) = all_further_of(alloc, tokens, place)?;
+    let (_, rest) = mark(rest, NEWLINE)?;
+    let statements = given_after(alloc, first, others)?;
+    Ok((appended(alloc, before, statements)?, rest))
+}
+
+/// The statements, and then those of a line of simple ones, up to its end. Linear in the line's tokens.
+#[tactic(auto, using(crate::proofs::Lined::line_goes, crate::proofs::Lined::line_ends))]
+pub fn line_into(
+    alloc: Global,
+    tokens: &[Token],
+    place: Simples,
+    before: Vec<Stmt>,
+) -> Taken<'_, Vec<Stmt>>
+    ensures read { Gives (λ x. Read x.0.items x.1.now) result (with_front before.items ((simples_line (expr 100) place).read tokens.now)) }
     ensures shorter { IfOk result (λ x. length x.1.now < length tokens.now) }
 {
     let (first, rest) = one_of(alloc, tokens, place)?;
-    let (others, rest) = all_further_of(alloc, rest, place)?;
+    if !stands(rest, NEWLINE) {
+        return several_into(alloc, rest, place, first, before);
+    }
     let (_, rest) = mark(rest, NEWLINE)?;
-    Ok((given_after(alloc, first, others)?, rest))
+    let mut all = with_room(before, rest)?;
+    all.push_reserved(first);
+    Ok((all, rest))
 }

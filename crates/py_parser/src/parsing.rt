@@ -75,7 +75,9 @@ fn module_of(alloc: Global, scratch: &mut Scratch, text: &str) -> Result<Module,
         Ok(tokens) => tokens,
         Err(error) => return Err(from_lexer(error)),
     };
-    match module_of_tokens(alloc, tokens.as_slice()) {
+    let answer = module_of_tokens(alloc, tokens.as_slice());
+    scratch.keep(tokens);
+    match answer {
         Ok(module) => Ok(module),
         Err(error) => Err(from_grammar(error)),
     }
@@ -96,7 +98,8 @@ pub fn parse(alloc: Global, text: &str) -> Result<Parsed, FileError>
     parse_with(alloc, &mut scratch, text)
 }
 
-/// What `parse` answers. The names of the texts that were read before with the same scratch are shared where they come again.
+/// What `parse` answers. The names that were read lately with the same scratch, as many as it keeps, are shared where they come
+/// again.
 pub fn parse_with(alloc: Global, scratch: &mut Scratch, text: &str) -> Result<Parsed, FileError>
     requires { length text.now < 2 ^ 31 }
     ensures text { IfOk result (λ p. p.text ≡ text.now) }

@@ -5,8 +5,7 @@ ghost use Rattle.phrases.specs.Verdict.{TooDeepAt};
 ghost use Rattle.py_ast.specs.Files.{file};
 ghost use Rattle.py_parser.specs.Faults.{SyntaxStop, EndsWith, StopPlace, ReadsTo, Refused, Judged, deepest};
 
-use crate::files::lines_of;
-use crate::lists::flattened;
+use crate::files::statements_of;
 use later_forms::{told_before, told_on_line};
 use phrases::{Fault, Stop};
 use py_ast::Module;
@@ -30,18 +29,16 @@ pub enum GrammarError {
 }
 
 /// The module, or where reading stops.
-#[tactic(auto, using(crate::proofs::Verdicts::is_module, crate::proofs::Verdicts::stops_behind, crate::proofs::Verdicts::stops_inside, crate::proofs::Verdicts::too_deep))]
+#[tactic(auto, using(crate::proofs::Verdicts::stops_inside, crate::proofs::Verdicts::too_deep))]
 fn read_module(alloc: Global, tokens: &[Token]) -> Result<Module, Stop<'_, Token>>
     ensures { ReadsTo tokens.now result }
 {
-    let (lines, rest) = match lines_of(alloc, tokens) {
+    let (body, rest) = match statements_of(alloc, tokens) {
         Ok(read) => read,
         Err(stop) => return Err(stop),
     };
     match rest {
-        [] => Ok(Module {
-            body: flattened(alloc, lines)?,
-        }),
+        [] => Ok(Module { body }),
         [_, ..] => Err(Stop::Fault(Fault::Syntax, rest)),
     }
 }

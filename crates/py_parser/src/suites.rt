@@ -1,22 +1,25 @@
 //! The statements behind the `:` of a block (Language Reference, chapter 8).
 
 ghost use Rattle.std.specs.Prelude.{◌≡◌, ◌<◌, ◌≤◌, ◌∷◌, [], ℕ, List, IfOk, length};
+ghost use Rattle.std.specs.List.{flat_map};
 ghost use Rattle.phrases.specs.Sets.{has};
 ghost use Rattle.phrases.specs.Reading.{Read};
-ghost use Rattle.phrases.specs.Phrases.{many};
-ghost use Rattle.phrases.specs.Loops.{Gives};
+ghost use Rattle.phrases.specs.Phrases.{sequence, many};
+ghost use Rattle.phrases.specs.Loops.{Gives, with_front};
 ghost use Rattle.py_ast.specs.Kinds.{class};
-ghost use Rattle.py_ast.specs.Grammar.{expr};
+ghost use Rattle.py_ast.specs.Grammar.{mapped, expr};
 ghost use Rattle.py_ast.specs.Literals.{literal};
+ghost use Rattle.py_ast.specs.Statements.{cons};
 ghost use Rattle.py_ast.specs.Files.{suites, suite_first, indented, body_statement, member_statement};
+ghost use Rattle.py_parser.specs.Lists.{with_all};
 ghost use Rattle.py_parser.specs.Lines.{simples_line};
 ghost use Rattle.py_parser.specs.Suites.{ReadsSuites, statement, statement_first, simples_of};
 
-use crate::blocks::single_compound_of;
-use crate::definitions::single_function_of;
-use crate::lines::{Simples, line_of};
-use crate::lists::joined;
-use phrases::{Fault, Stop, many};
+use crate::blocks::compound_into;
+use crate::definitions::function_into;
+use crate::lines::{Simples, line_into};
+use crate::lists::many_into;
+use phrases::{Fault, Stop};
 use py_ast::{Stmt, Suite};
 use py_expr::class::class_of;
 use py_expr::token::{Taken, mark, stands};
@@ -28,73 +31,76 @@ use py_simple::words::{
 use sqlite_items::Items;
 use std::alloc::Global;
 
-/// A statement of a block, or a line of simple ones.
+/// The statements, and then one of a block, or a line of simple ones.
 #[tactic(auto, unfolding(py_ast::specs::Files::body_statement, crate::specs::Lines::simples))]
-fn body_statement_of<'a, S>(
+fn body_statement_into<'a, S>(
     alloc: Global,
     tokens: &'a [Token],
     room: u8,
     returns: bool,
     loops: bool,
     suite: &S,
-) -> Taken<'a, Items<Stmt>>
+    before: Vec<Stmt>,
+) -> Taken<'a, Vec<Stmt>>
 where
     S: Fn(Suite, &[Token]) -> Taken<'_, Items<Stmt>>,
     requires callable { S.IsAlwaysCallable suite.now }
     requires reads { ReadsSuites (λ s ts r. S.post suite.now s ts r) room }
-    ensures read { Gives (λ x. Read x.0 x.1.now) result ((body_statement (expr 100) room (suites 100 room) returns loops).read tokens.now) }
+    ensures read { Gives (λ x. Read x.0.items x.1.now) result (with_front before.items ((body_statement (expr 100) room (suites 100 room) returns loops).read tokens.now)) }
     ensures shorter { IfOk result (λ x. length x.1.now < length tokens.now) }
 {
     if stands_compound(tokens) {
-        single_compound_of(alloc, tokens, room, returns, loops, suite)
+        compound_into(alloc, tokens, room, returns, loops, suite, before)
     } else {
-        line_of(alloc, tokens, Simples::OfBody(returns, loops))
+        line_into(alloc, tokens, Simples::OfBody(returns, loops), before)
     }
 }
 
-/// A function of a class, or a line of simple statements.
+/// The statements, and then a function of a class, or a line of simple ones.
 #[tactic(auto, unfolding(py_ast::specs::Files::member_statement, crate::specs::Lines::simples))]
-fn member_statement_of<'a, S>(
+fn member_statement_into<'a, S>(
     alloc: Global,
     tokens: &'a [Token],
     room: u8,
     suite: &S,
-) -> Taken<'a, Items<Stmt>>
+    before: Vec<Stmt>,
+) -> Taken<'a, Vec<Stmt>>
 where
     S: Fn(Suite, &[Token]) -> Taken<'_, Items<Stmt>>,
     requires callable { S.IsAlwaysCallable suite.now }
     requires reads { ReadsSuites (λ s ts r. S.post suite.now s ts r) room }
-    ensures read { Gives (λ x. Read x.0 x.1.now) result ((member_statement (expr 100) (literal 100) room (suites 100 room)).read tokens.now) }
+    ensures read { Gives (λ x. Read x.0.items x.1.now) result (with_front before.items ((member_statement (expr 100) (literal 100) room (suites 100 room)).read tokens.now)) }
     ensures shorter { IfOk result (λ x. length x.1.now < length tokens.now) }
 {
     if stands_function(tokens) {
-        single_function_of(alloc, tokens, room, suite)
+        function_into(alloc, tokens, room, suite, before)
     } else {
-        line_of(alloc, tokens, Simples::OfClass)
+        line_into(alloc, tokens, Simples::OfClass, before)
     }
 }
 
-/// A statement, or a line of simple ones.
+/// The statements, and then one more, or a line of simple ones.
 #[tactic(auto, unfolding(crate::specs::Suites::statement))]
-fn statement_of<'a, S>(
+fn statement_into<'a, S>(
     alloc: Global,
     tokens: &'a [Token],
     room: u8,
     kind: Suite,
     suite: &S,
-) -> Taken<'a, Items<Stmt>>
+    before: Vec<Stmt>,
+) -> Taken<'a, Vec<Stmt>>
 where
     S: Fn(Suite, &[Token]) -> Taken<'_, Items<Stmt>>,
     requires callable { S.IsAlwaysCallable suite.now }
     requires reads { ReadsSuites (λ s ts r. S.post suite.now s ts r) room }
-    ensures read { Gives (λ x. Read x.0 x.1.now) result ((statement room (suites 100 room) kind).read tokens.now) }
+    ensures read { Gives (λ x. Read x.0.items x.1.now) result (with_front before.items ((statement room (suites 100 room) kind).read tokens.now)) }
     ensures shorter { IfOk result (λ x. length x.1.now < length tokens.now) }
 {
     match kind {
         Suite::Body(returns, loops) => {
-            body_statement_of(alloc, tokens, room, returns, loops, suite)
+            body_statement_into(alloc, tokens, room, returns, loops, suite, before)
         }
-        Suite::Members => member_statement_of(alloc, tokens, room, suite),
+        Suite::Members => member_statement_into(alloc, tokens, room, suite, before),
     }
 }
 
@@ -120,38 +126,61 @@ fn simples_of(kind: Suite) -> Simples
     }
 }
 
-/// Statements, line by line, while one begins.
+/// The statements, and then more of them, line by line, while one begins.
+fn statements_into<'a, S>(
+    alloc: Global,
+    tokens: &'a [Token],
+    room: u8,
+    kind: Suite,
+    suite: &S,
+    before: Vec<Stmt>,
+) -> Taken<'a, Vec<Stmt>>
+where
+    S: Fn(Suite, &[Token]) -> Taken<'_, Items<Stmt>>,
+    requires callable { S.IsAlwaysCallable suite.now }
+    requires reads { ReadsSuites (λ s ts r. S.post suite.now s ts r) room }
+    ensures read { Gives (λ x. Read x.0.items x.1.now) result (with_all before.items ((many class (statement_first kind) (statement room (suites 100 room) kind)).read tokens.now)) }
+    ensures no_longer { IfOk result (λ x. length x.1.now ≤ length tokens.now) }
+{
+    many_into(
+        tokens,
+        before,
+        |token: &Token|
+            ensures { result ≡ has (statement_first kind) (class token.now) }
+        { begins_statement(kind, class_of(token)) },
+        |rest: &[Token], all: Vec<Stmt>|
+            requires callable { S.IsAlwaysCallable suite.now }
+            requires reads { ReadsSuites (λ s ts r. S.post suite.now s ts r) room }
+            ensures read { Gives (λ x. Read x.0.items x.1.now) result (with_front all.items ((statement room (suites 100 room) kind).read rest.now)) }
+            ensures shorter { IfOk result (λ x. length x.1.now < length rest.now) }
+        { statement_into(alloc, rest, room, kind, suite, all) },
+    )
+}
+
+/// The statements of a block, of which there is one at least.
 fn statements_of<'a, S>(
     alloc: Global,
     tokens: &'a [Token],
     room: u8,
     kind: Suite,
     suite: &S,
-) -> Taken<'a, Items<Items<Stmt>>>
+) -> Taken<'a, Vec<Stmt>>
 where
     S: Fn(Suite, &[Token]) -> Taken<'_, Items<Stmt>>,
     requires callable { S.IsAlwaysCallable suite.now }
     requires reads { ReadsSuites (λ s ts r. S.post suite.now s ts r) room }
-    ensures read { Gives (λ x. Read x.0 x.1.now) result ((many class (statement_first kind) (statement room (suites 100 room) kind)).read tokens.now) }
-    ensures no_longer { IfOk result (λ x. length x.1.now ≤ length tokens.now) }
+    ensures read { Gives (λ x. Read x.0.items x.1.now) result ((mapped (sequence (statement room (suites 100 room) kind) (λ s. many class (statement_first kind) (statement room (suites 100 room) kind)) cons) (flat_map (λ s. s))).read tokens.now) }
+    ensures shorter { IfOk result (λ x. length x.1.now < length tokens.now) }
 {
-    many(
-        alloc,
-        tokens,
-        |token: &Token|
-            ensures { result ≡ has (statement_first kind) (class token.now) }
-        { begins_statement(kind, class_of(token)) },
-        |rest: &[Token]|
-            requires callable { S.IsAlwaysCallable suite.now }
-            requires reads { ReadsSuites (λ s ts r. S.post suite.now s ts r) room }
-            ensures read { Gives (λ x. Read x.0 x.1.now) result ((statement room (suites 100 room) kind).read rest.now) }
-            ensures shorter { IfOk result (λ x. length x.1.now < length rest.now) }
-        { statement_of(alloc, rest, room, kind, suite) },
-    )
+    let (first, rest) = match statement_into(alloc, tokens, room, kind, suite, Vec::new(alloc)) {
+        Ok(read) => read,
+        Err(stop) => return Err(stop),
+    };
+    statements_into(alloc, rest, room, kind, suite, first)
 }
 
 /// What stands behind the `:` of a block: statements, indented on lines of their own, or simple ones on the same line.
-#[tactic(auto, unfolding(py_ast::specs::Files::indented, py_ast::specs::Grammar::mapped, py_ast::specs::Grammar::past, py_ast::specs::Grammar::ended))]
+#[tactic(auto, unfolding(py_ast::specs::Files::indented, py_ast::specs::Grammar::past, py_ast::specs::Grammar::ended))]
 fn suite_over_of<'a, S>(
     alloc: Global,
     tokens: &'a [Token],
@@ -167,14 +196,16 @@ where
     ensures shorter { IfOk result (λ x. length x.1.now < length tokens.now) }
 {
     if !stands(tokens, NEWLINE) {
-        return line_of(alloc, tokens, simples_of(kind));
+        // With room for no other, as most such lines have one statement.
+        let none = Vec::with_capacity(alloc, 1)?;
+        let (all, rest) = line_into(alloc, tokens, simples_of(kind), none)?;
+        return Ok((Items::from_vec(all), rest));
     }
     let (_, rest) = mark(tokens, NEWLINE)?;
     let (_, rest) = mark(rest, INDENT)?;
-    let (first, rest) = statement_of(alloc, rest, room, kind, &suite)?;
-    let (others, rest) = statements_of(alloc, rest, room, kind, &suite)?;
+    let (statements, rest) = statements_of(alloc, rest, room, kind, &suite)?;
     let (_, rest) = mark(rest, DEDENT)?;
-    Ok((joined(alloc, first, others)?, rest))
+    Ok((Items::from_vec(statements), rest))
 }
 
 /// Whether the class begins what stands behind a `:`.
