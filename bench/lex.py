@@ -2,7 +2,7 @@
 """How fast `dump count` lexes 10 MiB of this machine's Python standard library, beside CPython's `tokenize` in the same run.
 
 Prints the ratio (the aim is at least 10), and how the time grows from 10 to 20 MiB (the aim is at most 2.2 times). Times are
-processor seconds, of ours the best of three runs, so that other work on the machine counts little. The text is made of whole files that the
+processor seconds, the least of three runs of each, which take turns, so that other work on the machine counts alike. The text is made of whole files that the
 lexer accepts, each ended by a line end; the time of ours has the start of the process and the reading of standard input in it.
 """
 
