@@ -34,8 +34,6 @@ mod spellings;
 mod stack;
 mod state;
 mod strings;
-#[cfg(test)]
-mod tests;
 mod token;
 mod words;
 

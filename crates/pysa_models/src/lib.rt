@@ -25,8 +25,6 @@ mod marks;
 mod models;
 mod notes;
 mod signatures;
-#[cfg(test)]
-mod tests;
 
 pub use declaration::{Declaration, Parameter, Signature};
 pub use declared::{Declared, declare};

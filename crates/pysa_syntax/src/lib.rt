@@ -23,8 +23,6 @@ mod models;
 mod params;
 mod reading;
 mod symbol;
-#[cfg(test)]
-mod tests;
 mod words;
 
 pub use decl::{Decl, DeclMark, DeclParam, ParamKind};

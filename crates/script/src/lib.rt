@@ -13,8 +13,6 @@ mod faults;
 mod fields;
 mod reading;
 mod run;
-#[cfg(test)]
-mod tests;
 mod values;
 
 pub use command::{Command, Next, Query, Wait};

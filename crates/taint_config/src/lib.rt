@@ -20,8 +20,6 @@ mod notes;
 mod parts;
 mod reading;
 mod rules;
-#[cfg(test)]
-mod tests;
 
 pub use configuration::{Config, Rule};
 pub use faults::ConfigError;

@@ -13,8 +13,6 @@ mod laws;
 mod lists;
 mod models;
 mod puts;
-#[cfg(test)]
-mod tests;
 
 pub use laws::{
     cells_at_distributes_over_join, cells_at_is_least_upper_bound, cells_at_is_monotone,

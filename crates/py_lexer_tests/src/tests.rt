@@ -1,6 +1,6 @@
 //! Texts and their tokens or faults, worked out by hand from the Language Reference.
 
-use super::*;
+use py_lexer::*;
 use std::alloc::Global;
 use std::fmt;
 

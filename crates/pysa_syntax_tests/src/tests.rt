@@ -1,8 +1,8 @@
 //! Model files and what they declare, worked out by hand from the grammar.
 
-use super::*;
 use py_lexer::{Form, LexKind};
 use py_literals::place::Pos;
+use pysa_syntax::*;
 use std::alloc::Global;
 use std::fmt;
 use std::test::Fail;
@@ -321,6 +321,16 @@ fn tells_forms(rt: HostRuntime) {
                 "@Sanitize\ndef f(): ...\n",
                 ModelError::Unsupported(Form::Sanitize, at(1, 1)),
             ),
+        ],
+        &rt,
+    );
+}
+
+#[test]
+fn tells_forms_behind_others(rt: HostRuntime) {
+    compare_faults(
+        rt.alloc(),
+        &[
             (
                 "def f(): ...\n@Sanitize(TaintSource)\ndef g(): ...\n",
                 ModelError::Unsupported(Form::Sanitize, at(2, 1)),

@@ -1,11 +1,11 @@
 //! What no clause says: files by hand with the fault that their rules tell, alone and two at once; the limits, and one
 //! either side of each; a configuration as a user of Pysa has it; and that a call can succeed.
 
-use super::*;
 use rv_names::Name;
 use std::alloc::{AllocError, Global};
 use std::process::Abort;
 use std::test::Fail;
+use taint_config::*;
 
 /// A configuration of one rule, 260 bytes.
 const ONE_RULE: &str =
@@ -185,7 +185,19 @@ fn whole_files(rt: HostRuntime) -> Result<(), Fail> {
             "{\"sources\":[],\"sinks\":[],\"rules\":[],\"sources\":null}",
             "WrongType",
         ),
-        // Two at once, in both orders.
+    ];
+    all_told(&rt, &cases);
+    assert_eq!(rt;
+        read_config(rt.alloc(), b"{\"sources\":[\"\xff\"]}").map(|_| ()),
+        Err(ConfigError::NotJson)
+    );
+    Ok(())
+}
+
+// Two at once, in both orders.
+#[test]
+fn whole_files_with_two_faults(rt: HostRuntime) {
+    let cases = [
         ("{\"sources\":null,\"rules\":[]}", "WrongType"),
         ("{\"sinks\":null,\"rules\":[]}", "Missing"),
         ("{\"sources\":[{}],\"sinks\":null,\"rules\":[]}", "Missing"),
@@ -215,11 +227,6 @@ fn whole_files(rt: HostRuntime) -> Result<(), Fail> {
         ),
     ];
     all_told(&rt, &cases);
-    assert_eq!(rt;
-        read_config(rt.alloc(), b"{\"sources\":[\"\xff\"]}").map(|_| ()),
-        Err(ConfigError::NotJson)
-    );
-    Ok(())
 }
 
 #[test]
@@ -308,6 +315,13 @@ fn rules(rt: HostRuntime) -> Result<(), Fail> {
             "{\"name\":\"r\",\"code\":1,\"sources\":[],\"sinks\":[],\"message_format\":null}",
             "WrongType",
         ),
+    ];
+    rules_told(&rt, &cases)
+}
+
+#[test]
+fn rules_of_unknown_kinds(rt: HostRuntime) -> Result<(), Fail> {
+    let cases = [
         (
             "{\"name\":\"r\",\"code\":1,\"sources\":[\"c\"],\"sinks\":[],\"message_format\":\"m\"}",
             "UnknownKind",
@@ -324,7 +338,14 @@ fn rules(rt: HostRuntime) -> Result<(), Fail> {
             "{\"name\":\"r\",\"code\":1,\"sources\":[\"\"],\"sinks\":[],\"message_format\":\"m\"}",
             "UnknownKind",
         ),
-        // Two at once: in one field the wrong type first, then by the place of the field, and of the item.
+    ];
+    rules_told(&rt, &cases)
+}
+
+// Two at once: in one field the wrong type first, then by the place of the field, and of the item.
+#[test]
+fn rules_with_two_faults(rt: HostRuntime) -> Result<(), Fail> {
+    let cases = [
         (
             "{\"name\":\"r\",\"code\":1,\"sources\":[\"x\",0],\"sinks\":[],\"message_format\":\"m\"}",
             "WrongType",
@@ -366,7 +387,11 @@ fn rules(rt: HostRuntime) -> Result<(), Fail> {
             "UnknownKind",
         ),
     ];
-    rules_told(&rt, &cases)?;
+    rules_told(&rt, &cases)
+}
+
+#[test]
+fn codes(rt: HostRuntime) -> Result<(), Fail> {
     let cases = [
         ("0", "accepted"),
         ("4294967295", "accepted"),

@@ -1,7 +1,7 @@
 //! What no clause says: each command by hand and cut at every byte; the limits, and one byte either side of each; faults
 //! with their places; and that a call can succeed.
 
-use super::*;
+use script::*;
 use std::alloc::{AllocError, Global};
 use std::process::Abort;
 use std::test::Fail;
@@ -397,6 +397,12 @@ fn limits(rt: HostRuntime) -> Result<(), Fail> {
         "[[],[]]\n",
         "Run { fuel: 1",
     )?;
+    Ok(())
+}
+
+#[test]
+fn limits_of_unfinished_lines(rt: HostRuntime) -> Result<(), Fail> {
+    let alloc = rt.alloc();
     limited(
         &rt,
         alloc,

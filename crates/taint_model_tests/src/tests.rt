@@ -5,12 +5,12 @@
 //! result. Puts are written as cells with a mark and a distance. A model is its result, its parameters between slashes (`-`
 //! for a callable without parameters), and its puts, between semicolons.
 
-use crate::*;
 use path_trees::{Entry, Mark, Path, Port, Spot, Step, Tree, le};
 use rv_names::{Name, Text};
 use std::alloc::Global;
 use std::process::Abort;
 use std::test::Fail;
+use taint_model::*;
 
 fn read_step(alloc: Global, text: &str) -> Result<Step, Fail> {
     if text == "*" {

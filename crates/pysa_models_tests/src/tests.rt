@@ -1,7 +1,7 @@
 //! What no clause says: that calls succeed, and model files with what they declare, worked out by hand.
 
-use super::*;
 use path_trees::Mark;
+use pysa_models::*;
 use pysa_syntax::{Decl, ModelError, read_models};
 use rv_names::{Name, QName, Text};
 use sqlite_items::Items;
