@@ -1,2 +1,3 @@
+pub mod InlineLemmas
 pub mod KeyLemmas
 pub mod NumberingLemmas

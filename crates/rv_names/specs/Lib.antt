@@ -1,3 +1,4 @@
 pub mod Identifier
+pub mod Kept
 pub mod Keys
 pub mod Numbering

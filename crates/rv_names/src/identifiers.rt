@@ -1,11 +1,12 @@
 //! Names: texts that are identifiers.
 
-ghost use Rattle.std.specs.Prelude.{◌≡◌, ◌↔◌, IfOk, OnOk, IsTrue, chars, Err};
+ghost use Rattle.std.specs.Prelude.{◌≡◌, ◌↔◌, IfOk, IfSome, OnOk, IsTrue, chars, Err, encode_utf8_all};
 ghost use Rattle.std.specs.List.{list_all};
 ghost use Rattle.rv_names.specs.Identifier.{IsIdentifier, is_identifier_start, is_identifier_continue, is_spelled_as_identifier};
 ghost use Rattle.rv_names.specs.Keys.{bytes_equal};
 ghost use Rattle.rv_names.specs.declared.faults.NameFault.TheVariants.{NotIdent};
 
+use crate::inline::Inline;
 use crate::{Memory, NameFault, Text};
 use std::alloc::{AllocError, Global};
 use std::cmp::Ordering;
@@ -16,8 +17,8 @@ use unicode_normalization::is_nfkc;
 
 /// An identifier in NFKC, which contracts see as the list of its bytes. A keyword is a name too.
 ///
-/// Python Language Reference, section 2.3. Its bytes are shared as those of a `Text` are, and names are equal, and
-/// ordered, by their bytes.
+/// Python Language Reference, section 2.3. Its bytes lie where those of a `Text` do, and names are equal, and ordered,
+/// by their bytes.
 #[derive(Drop)]
 pub struct Name {
     text: Text,
@@ -59,7 +60,8 @@ fn continues(text: &str) -> bool
     text.chars().all(|ch| is_identifier_continue(ch))
 }
 
-fn is_spelled_as_identifier(text: &str) -> bool
+/// Whether the text is spelled as an identifier, whatever its normalization form.
+pub(crate) fn is_spelled_as_identifier(text: &str) -> bool
     ensures { result ≡ is_spelled_as_identifier (chars text.now) }
 {
     let mut rest = text.chars();
@@ -83,7 +85,24 @@ impl Name {
         Ok(Name { text })
     }
 
-    /// The same name, whose bytes both share. It costs a counter, and fails only where that counter is full.
+    /// The name of characters of ASCII, at no cost but their bytes: `None` where one isn't of ASCII, or there are more
+    /// than 22.
+    pub fn ascii(text: &[char]) -> Option<Name>
+        requires { IsTrue (is_spelled_as_identifier text.now) }
+        ensures name { IfSome result (λ n. n ≡ encode_utf8_all text.now) }
+        ensures identifier { IfSome result (λ n. IsIdentifier text.now) }
+    {
+        match Inline::ascii(text) {
+            Some(inline) => {
+                let text = Text::of_inline(inline);
+                Some(Name { text })
+            }
+            None => None,
+        }
+    }
+
+    /// The same name, at the cost of a copy of its text: it fails only where a name of more than 22 bytes has a full
+    /// counter.
     pub fn copy(&self) -> Result<Name, Memory>
         ensures { IfOk result (λ n. n ≡ self.now) }
     {
@@ -98,7 +117,7 @@ impl Name {
         self.text.as_str()
     }
 
-    /// The name as a text, whose bytes both share. It costs a counter, and fails only where that counter is full.
+    /// The name as a text, at the cost of a copy: it fails only where a name of more than 22 bytes has a full counter.
     pub fn to_text(&self) -> Result<Text, Memory>
         ensures { IfOk result (λ t. t ≡ self.now) }
     {

@@ -1,6 +1,7 @@
 //! Texts, names and qualified names of a Python project, shared between threads, and numbers for qualified names.
 //!
-//! * `texts`: a `Text`, UTF-8 that is copied at the cost of a counter;
+//! * `inline`: a text of at most 22 bytes, which lie in the value itself;
+//! * `texts`: a `Text`, UTF-8 that is copied at the cost of 24 bytes or a counter;
 //! * `identifiers`: a `Name`, a text that is an identifier, and `Name::read`, the test of an identifier;
 //! * `qualified`: a `QName`, a list of names;
 //! * `numbering`: `Names`, which numbers qualified names from 0 on;
@@ -9,6 +10,7 @@
 
 mod faults;
 mod identifiers;
+mod inline;
 mod numbering;
 mod qualified;
 #[cfg(test)]

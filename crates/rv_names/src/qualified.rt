@@ -36,7 +36,7 @@ impl QName {
         QName { parts }
     }
 
-    /// The same qualified name, whose names share their bytes with these. It costs a counter a name, and a list of them.
+    /// The same qualified name. It costs a copy of each name, and a list of them.
     pub fn copy(&self) -> Result<QName, Memory>
         ensures { IfOk result (λ q. q ≡ self.now) }
     {

@@ -1,8 +1,12 @@
 //! What no clause says: outside vectors of identifiers, printed text, that each call can succeed, that comparisons can be
 //! derived above, and that threads can share the values.
 
+ghost use Rattle.std.specs.Prelude.{◌≡◌, IfOk, chars};
+
 use super::*;
+use crate::identifiers::is_spelled_as_identifier;
 use std::alloc::{AllocError, Global};
+use std::hash::{DefaultHasher, Hash, Hasher};
 use std::process::Abort;
 use std::test::Fail;
 use std::thread;
@@ -115,20 +119,90 @@ fn identifiers(rt: HostRuntime) {
     }
 }
 
+/// The characters of the text.
+#[tactic(auto, using(std::proofs::lemmas::Str::chars_from_encodes))]
+fn chars_of(alloc: Global, text: &str) -> Result<Vec<char>, AllocError>
+    ensures { IfOk result (λ cs. cs.items ≡ chars text.now) }
+{
+    text.chars().collect(alloc)
+}
+
+fn hash_of<T: Hash>(value: &T) -> u64 {
+    let mut state = DefaultHasher::new();
+    value.hash(&mut state);
+    state.finish()
+}
+
+/// Texts of 0, 21, 22 and 23 bytes, and such that end in a character of two bytes, each above the one before it.
 #[test]
 fn texts(rt: HostRuntime) -> Result<(), Fail> {
-    let text = Text::read(rt.alloc(), "naïve")?;
-    let taken = Text::from_string(String::from_str(rt.alloc(), "naïve")?)?;
-    assert!(rt; text.copy()? == taken);
+    let alloc = rt.alloc();
+    let mut rising = Vec::new(alloc);
+    for text in [
+        "",
+        "abcdefghijklmnopqrstu",
+        "abcdefghijklmnopqrstuv",
+        "abcdefghijklmnopqrstuvw",
+        "abcdefghijklmnopqrstué",
+        "abcdefghijklmnopqrsté",
+        "naïve",
+        "naïve words, many of them",
+    ] {
+        let read = Text::read(alloc, text)?;
+        let taken = Text::from_string(String::from_str(alloc, text)?)?;
+        assert_eq!(rt; read.as_str(), text);
+        assert!(rt; taken == read && read.copy()? == taken, "{text}");
+        assert_eq!(rt; hash_of(&read), hash_of(&text), "{text}");
+        rising.push(read)?;
+    }
+    rises(&rt, rising.as_slice());
+    Ok(())
+}
+
+/// Whether the characters of the text give a text, and a name, of the same bytes without memory.
+fn is_kept(rt: &(impl Abort + Alloc<A = Global>), text: &str) -> Result<bool, AllocError> {
+    let chars = chars_of(rt.alloc(), text)?;
+    let kept = Text::ascii(chars.as_slice());
+    if let Some(found) = &kept {
+        assert_eq!(rt; found.as_str(), text);
+    }
+    if is_spelled_as_identifier(text) {
+        match Name::ascii(chars.as_slice()) {
+            Some(name) => assert_eq!(rt; name.as_str(), text),
+            None => assert!(rt; kept.is_none(), "{text}"),
+        }
+    }
+    Ok(kept.is_some())
+}
+
+#[test]
+fn texts_of_ascii(rt: HostRuntime) -> Result<(), Fail> {
+    for (text, kept) in [
+        ("", true),
+        ("x", true),
+        ("a b\u{0}\u{7f}", true),
+        ("\u{80}", false),
+        ("café", false),
+        ("变量", false),
+        ("abcdefghijklmnopqrstuv", true),
+        ("abcdefghijklmnopqrstuvw", false),
+    ] {
+        assert_eq!(rt; is_kept(&rt, text)?, kept, "{text:?}");
+    }
     Ok(())
 }
 
 #[test]
 fn names(rt: HostRuntime) -> Result<(), Fail> {
-    let name = Name::read(rt.alloc(), "größe")?;
-    assert!(rt; name.copy()?.to_text()?.as_str() == name.as_str());
+    for text in ["größe", "größe_in_mehr_als_22_bytes"] {
+        let name = Name::read(rt.alloc(), text)?;
+        assert_eq!(rt; name.copy()?.to_text()?.as_str(), text);
+    }
     // By bytes: capitals, `_`, small letters, a name before one that it begins, and then all that is not ASCII.
-    let rising = parts_of(rt.alloc(), "A.Zebra._.a.aa.b.é.变")?;
+    let rising = parts_of(
+        rt.alloc(),
+        "A.Zebra._.a.a_name_of_more_than_22_bytes.aa.b.é.变",
+    )?;
     rises(&rt, rising.as_slice());
     Ok(())
 }

@@ -1,9 +1,10 @@
-//! Texts that are shared.
+//! Texts: short ones lie in the value itself, longer ones are shared.
 
-ghost use Rattle.std.specs.Prelude.{◌≡◌, ◌↔◌, IfOk, IsTrue, string_bytes};
+ghost use Rattle.std.specs.Prelude.{◌≡◌, ◌↔◌, IfOk, IfSome, IsTrue, encode_utf8_all, string_bytes};
 ghost use Rattle.rv_names.specs.Keys.{bytes_equal};
 
 use crate::Memory;
+use crate::inline::Inline;
 use std::alloc::{AllocError, Global};
 use std::cmp::Ordering;
 use std::fmt;
@@ -11,41 +12,77 @@ use std::hash::{Hash, Hasher};
 use std::marker::Model;
 use std::sync::ArcStr;
 
+/// Where the bytes of a text lie: in the value itself, or shared.
+#[derive(Drop)]
+enum Kept {
+    Inline(Inline),
+    Shared(ArcStr),
+}
+
 /// A text in UTF-8, which contracts see as the list of its bytes.
 ///
-/// Its bytes are shared: a copy costs a counter, and threads can share it. Texts are equal, and ordered, by their bytes.
+/// A text of at most 22 bytes lies in the value itself, and a copy of it costs its 24 bytes. The bytes of a longer one
+/// are shared, and a copy costs a counter. Threads can share both. Texts are equal, and ordered, by their bytes.
 #[derive(Drop)]
 pub struct Text {
-    shared: ArcStr,
+    kept: Kept,
 }
 
 impl Model for Text {
-    ghost use Rattle.std.specs.Arc.{arc_str_bytes};
     ghost use Rattle.rv_names.specs.Keys.{Bytes};
+    ghost use Rattle.rv_names.specs.Kept.{kept_bytes};
 
     ghost Value = { Bytes };
 
-    ghost view = { λ t. arc_str_bytes t.shared };
+    ghost view = { λ t. kept_bytes t.kept };
 }
 
 impl Text {
-    /// The text, with bytes of its own. Linear in its length.
+    /// The text, with bytes of its own. Linear in its length; one of at most 22 bytes takes no memory, and cannot fail.
     pub fn read(alloc: Global, text: &str) -> Result<Text, Memory>
         ensures { IfOk result (λ t. t ≡ text.now) }
     {
+        if let Some(inline) = Inline::read(text) {
+            return Ok(Text::of_inline(inline));
+        }
         let shared = ArcStr::from_str(alloc, text)?;
-        Ok(Text { shared })
+        let kept = Kept::Shared(shared);
+        Ok(Text { kept })
     }
 
-    /// The text of a string, whose bytes it takes over.
+    /// The text of characters of ASCII, at no cost but their bytes: `None` where one isn't of ASCII, or there are more
+    /// than 22.
+    pub fn ascii(text: &[char]) -> Option<Text>
+        ensures { IfSome result (λ t. t ≡ encode_utf8_all text.now) }
+    {
+        match Inline::ascii(text) {
+            Some(inline) => Some(Text::of_inline(inline)),
+            None => None,
+        }
+    }
+
+    /// The same text.
+    pub(crate) fn of_inline(inline: Inline) -> Text
+        ensures { result ≡ inline }
+    {
+        let kept = Kept::Inline(inline);
+        Text { kept }
+    }
+
+    /// The text of a string, whose bytes it takes over where they are more than 22.
     pub fn from_string(text: String) -> Result<Text, Memory>
         ensures { IfOk result (λ t. t ≡ string_bytes text) }
     {
+        if let Some(inline) = Inline::read(text.as_str()) {
+            return Ok(Text::of_inline(inline));
+        }
         let shared = ArcStr::from_string(text)?;
-        Ok(Text { shared })
+        let kept = Kept::Shared(shared);
+        Ok(Text { kept })
     }
 
-    /// The same text, whose bytes both share. It costs a counter, and fails only where that counter is full.
+    /// The same text. A copy of a text of at most 22 bytes costs its 24 bytes. The bytes of a longer one both share: it
+    /// costs a counter, and fails only where that counter is full.
     pub fn copy(&self) -> Result<Text, Memory>
         ensures { IfOk result (λ t. t ≡ self.now) }
     {
@@ -56,7 +93,10 @@ impl Text {
     pub fn as_str(&self) -> &str
         ensures { result.now ≡ self.now }
     {
-        self.shared.as_str()
+        match &self.kept {
+            Kept::Inline(inline) => inline.as_str(),
+            Kept::Shared(shared) => shared.as_str(),
+        }
     }
 }
 
@@ -66,8 +106,13 @@ impl Clone for Text {
     ghost is_clone = { λ t copy. copy ≡ t };
 
     fn clone(&self) -> Result<Text, AllocError> {
-        let shared = self.shared.clone()?;
-        Ok(Text { shared })
+        match &self.kept {
+            Kept::Inline(inline) => Ok(Text::of_inline(inline.copy())),
+            Kept::Shared(shared) => {
+                let kept = Kept::Shared(shared.clone()?);
+                Ok(Text { kept })
+            }
+        }
     }
 }
 
