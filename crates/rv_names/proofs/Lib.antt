@@ -1,3 +1,4 @@
 pub mod InlineLemmas
 pub mod KeyLemmas
 pub mod NumberingLemmas
+pub mod OrderLemmas

@@ -133,13 +133,17 @@ fn hash_of<T: Hash>(value: &T) -> u64 {
     state.finish()
 }
 
-/// Texts of 0, 21, 22 and 23 bytes, and such that end in a character of two bytes, each above the one before it.
+/// Texts of 0, 7 to 9, 21, 22 and 23 bytes, and such that end in a character of two bytes, each above the one before it.
 #[test]
 fn texts(rt: HostRuntime) -> Result<(), Fail> {
     let alloc = rt.alloc();
     let mut rising = Vec::new(alloc);
     for text in [
         "",
+        "abcdefg",
+        "abcdefgg",
+        "abcdefgga",
+        "abcdefggb",
         "abcdefghijklmnopqrstu",
         "abcdefghijklmnopqrstuv",
         "abcdefghijklmnopqrstuvw",

@@ -1,7 +1,7 @@
 //! Texts: short ones lie in the value itself, longer ones are shared.
 
 ghost use Rattle.std.specs.Prelude.{◌≡◌, ◌↔◌, IfOk, IfSome, IsTrue, encode_utf8_all, string_bytes};
-ghost use Rattle.rv_names.specs.Keys.{bytes_equal};
+ghost use Rattle.rv_names.specs.Keys.{bytes_equal, bytes_order};
 
 use crate::Memory;
 use crate::inline::Inline;
@@ -35,6 +35,32 @@ impl Model for Text {
     ghost Value = { Bytes };
 
     ghost view = { λ t. kept_bytes t.kept };
+}
+
+/// How many bytes are compared one by one, before all are compared by words.
+const EARLY: usize = 8;
+
+/// The order of the bytes, where one of the first few tells it.
+fn early_order(one: &[u8], other: &[u8]) -> Option<Ordering>
+    ensures { IfSome result (λ order. order ≡ bytes_order one.now other.now) }
+{
+    let most = one.len().min(other.len()).min(EARLY);
+    for i in 0..most {
+        if one[i] != other[i] {
+            return Some(one[i].cmp(&other[i]));
+        }
+    }
+    None
+}
+
+/// The order of two texts. Most differ in one of their first bytes, and the others are compared by words.
+fn order(one: &str, other: &str) -> Ordering
+    ensures { result ≡ bytes_order one.now other.now }
+{
+    match early_order(one.as_bytes(), other.as_bytes()) {
+        Some(order) => order,
+        None => one.cmp(other),
+    }
 }
 
 impl Text {
@@ -154,7 +180,7 @@ impl Ord for Text {
     ghost matches_eq = { Prim.search (comparing, rules) };
 
     fn cmp(&self, other: &Text) -> Ordering {
-        self.as_str().cmp(other.as_str())
+        order(self.as_str(), other.as_str())
     }
 }
 

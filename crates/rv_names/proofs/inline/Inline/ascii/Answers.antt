@@ -1,5 +1,5 @@
-use Rattle.std.proofs.Common.{◌≡◌, arith, length, take, length-set, ◌∙◌}
-use Rattle.std.proofs.lemmas.List.{get_or_read, take_all}
+use Rattle.std.proofs.Common.{arith}
+use Rattle.std.proofs.lemmas.List.{get_or_read}
 use Rattle.std.proofs.lemmas.Grind.{common_steps}
 use Rattle.rv_names.proofs.InlineLemmas.{ascii_turn, byte_turn, all_ascii, front_same, bytes_utf8, bytes_encode}
 use Rattle.rv_names.proofs.inline.Inline.ascii.Goals as goal
