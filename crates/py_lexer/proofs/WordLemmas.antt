@@ -12,12 +12,16 @@ use Rattle.py_lexer.specs.declared.token.Value.TheVariants as values
 use Rattle.py_lexer.specs.declared.token.LexKind.TheVariants.{NotNormal}
 use Rattle.py_lexer.specs.Words.{word_by}
 
+-- an identifier in NFKC
+pub name_here : (text name : List ℕ) → IsIdentifier text → name ≡ encode_utf8_all text → Spelled (length text) kinds.Name (values.Name name) ≡ word_by (length text) text None
+name_here text name identifier is =
+    let t : is_in_form Nfkc text ≡ true = is_in_form_from Nfkc text identifier.normal in
+    rw (t, is) refl
+
 pub name_read : (text spelled name : List ℕ) → IsUtf8 spelled → spelled ≡ encode_utf8_all text → IsIdentifier (chars spelled) → name ≡ spelled → Spelled (length text) kinds.Name (values.Name name) ≡ word_by (length text) text None
 name_read text spelled name utf8 same identifier is =
     let e = chars_from_encodes text spelled utf8 (sym same) in
-    let normal = rw (← e) at identifier.normal in
-    let t : is_in_form Nfkc text ≡ true = is_in_form_from Nfkc text normal in
-    rw (t, is, same) refl
+    name_here text name (let P : List ℕ → Type 0 = λ v. IsIdentifier v in subst P (sym e) identifier) (is ∙ same)
 
 not_normal : (text : List ℕ) (b : Bool) → is_in_form Nfkc text ≡ b → (IsIdentifier text → ⊥) → is_spelled_as_identifier text ≡ true → Refused NotNormal 0 ≡ cond b (Spelled (length text) kinds.Name (values.Name (encode_utf8_all text))) (Refused NotNormal 0)
 not_normal text true t refused spelled = absurd (refused (record { spelled = spelled; normal = is_in_form-true Nfkc text t }))

@@ -57,6 +57,7 @@ pub fn may_continue_name(c: char) -> bool
 }
 
 /// What the character may begin.
+#[inline(always)]
 pub fn class_of(c: char) -> Class
     ensures { result ≡ class_of c }
 {
@@ -113,5 +114,12 @@ pub fn name_len(chars: &[char]) -> usize
     ensures value { result ≡ prefix_len is_identifier_continue chars.now }
     ensures within { result ≤ length chars.now }
 {
-    chars.iter().take_while(|c| may_continue_name(**c)).count()
+    let mut len = 0;
+    for c in chars {
+        if !may_continue_name(*c) {
+            return len;
+        }
+        len += 1;
+    }
+    len
 }

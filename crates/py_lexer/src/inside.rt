@@ -40,6 +40,7 @@ fn join(state: &mut State, rest: &[char]) -> Piece
 }
 
 /// Opens or closes the bracket, which stands at this place. In a field none counts.
+#[inline(always)]
 pub fn bracket(at: Pos, state: &mut State, sign: char) -> Result<(), Memory>
     ensures { OnOk result (state.new ≡ bracketed at state.old sign) }
 {

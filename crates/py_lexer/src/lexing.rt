@@ -158,7 +158,7 @@ fn tokens_of(
             rest = behind;
             continue 'pieces;
         }
-        let quick = push_quick(spellings, at, &mut state, rest, &mut tokens)?;
+        let quick = push_quick(at, &mut state, rest, &mut tokens)?;
         if quick > 0 {
             at.col += quick as u32;
             let (_, behind) = rest.split_at(quick);
@@ -215,8 +215,8 @@ pub fn lex(alloc: Global, text: &str) -> Result<Vec<Token>, LexError>
     lex_with(alloc, &mut scratch, text)
 }
 
-/// As `lex`, with what was kept of the texts before. So most of the memory for a text is taken once, and a name that
-/// was read lately costs a counter.
+/// As `lex`, with the room that was kept of the texts before. So most of the memory for a text is taken once. A short name
+/// or text of ASCII takes none.
 pub fn lex_with(alloc: Global, scratch: &mut Scratch, text: &str) -> Result<Vec<Token>, LexError>
     requires { length text.now < 2 ^ 31 }
     ensures tokens { IfOk result (λ v. HasTokens (chars text.now) v.items) }
@@ -224,7 +224,6 @@ pub fn lex_with(alloc: Global, scratch: &mut Scratch, text: &str) -> Result<Vec<
 {
     let room = mem::replace(&mut scratch.chars, Vec::new(alloc));
     let chars = source_chars(alloc, room, text)?;
-    scratch.spellings.begin(chars.len())?;
     let room = mem::replace(&mut scratch.tokens, Vec::new(alloc));
     let tokens = tokens_of(alloc, room, &mut scratch.spellings, &chars);
     scratch.chars = chars;

@@ -12,7 +12,7 @@
 //! * `inside`: what stands inside a logical line, by its first character;
 //! * `words`, `keywords`, `operators`, `strings`, `fstring`: that, by class;
 //! * `quick`: most tokens, which are pushed at once, and `gap`: most of what stands between them, which is passed at once;
-//! * `spellings`: what words and texts are spelled as, and the names that were spelled so before;
+//! * `spellings`: what words and texts are spelled as;
 //! * `chars`: the classes of characters.
 #![tactic(auto)]
 

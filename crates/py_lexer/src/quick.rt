@@ -1,8 +1,8 @@
 //! Most tokens inside a logical line: they are pushed at once, without a `Piece` of their own.
 
 ghost use Rattle.std.specs.Prelude.{◌≡◌, ◌∷◌, ◌++◌, ◌≤◌, ◌<◌, [], length, take, false, None, IfOk, OnOk, IsTrue};
-ghost use Rattle.std.specs.List.{prefix_len, list_any};
-ghost use Rattle.rv_names.specs.Identifier.{is_identifier_continue};
+ghost use Rattle.std.specs.List.{list_any};
+ghost use Rattle.rv_names.specs.Identifier.{is_identifier_start, is_spelled_as_identifier};
 ghost use Rattle.py_lexer.specs.declared.state.State.{State};
 ghost use Rattle.py_lexer.specs.declared.token.Value.TheVariants.{Nothing};
 ghost use Rattle.py_lexer.specs.Chars.{is_line_end, is_quote};
@@ -13,40 +13,14 @@ ghost use Rattle.py_lexer.specs.Pieces.{piece};
 ghost use Rattle.py_lexer.specs.Runs.{token};
 ghost use Rattle.py_lexer.specs.Quick.{IsPushed, has_quote_near};
 
-use crate::chars::{Class, class_of, may_continue_name};
+use crate::chars::{Class, class_of, name_len};
 use crate::inside::{bracket, next_is_digit};
 use crate::keywords::keyword_of;
 use crate::operators::{may_go_on, sign};
-use crate::spellings::{Spellings, is_spelled, with_char};
 use crate::state::{Mode, State};
 use crate::token::{Kind, Token, Value};
 use py_literals::place::Pos;
-use rv_names::Memory;
-
-/// The characters at the front that may continue a name.
-#[derive(Clone, Copy, Debug, PartialEq, Eq)]
-struct NameFront {
-    len: usize,
-    /// The number of the name, as `Names::place_of` takes it.
-    number: u32,
-}
-
-/// Those behind the first character of a name.
-fn name_front(first: char, rest: &[char]) -> NameFront
-    ensures value { result.len ≡ prefix_len is_identifier_continue rest.now }
-    ensures within { result.len ≤ length rest.now }
-{
-    let mut len = 0;
-    let mut number = with_char(0, first);
-    for c in rest {
-        if !may_continue_name(*c) {
-            return NameFront { len, number };
-        }
-        len += 1;
-        number = with_char(number, *c);
-    }
-    NameFront { len, number }
-}
+use rv_names::{Memory, Name};
 
 fn is_quote(c: char) -> bool
     ensures { result ≡ is_quote c }
@@ -64,24 +38,15 @@ fn has_quote_near(rest: &[char]) -> bool
     }
 }
 
-/// Pushes the name, if it was read lately: whether it was.
-fn push_name(
-    spellings: &Spellings,
-    number: u32,
-    at: Pos,
-    text: &[char],
-    tokens: &mut Vec<Token>,
-) -> Result<bool, Memory>
+/// Pushes the name, if it lies in the token itself, as a short one of ASCII does: whether it was pushed.
+fn push_name(at: Pos, text: &[char], tokens: &mut Vec<Token>) -> Result<bool, Memory>
+    requires { IsTrue (is_spelled_as_identifier text.now) }
     ensures none { IfOk result (λ pushed. pushed ≡ false → tokens.new.items ≡ tokens.old.items) }
     ensures some { IfOk result (λ pushed. IsTrue pushed → (s : State) → IsPushed at (front_of_lexeme (word_by (length text.now) text.now None) s) (length text.now) s tokens.old.items tokens.new.items) }
 {
-    let Some(name) = spellings.names.last(spellings.names.place_of(number)) else {
+    let Some(name) = Name::ascii(text) else {
         return Ok(false);
     };
-    if !is_spelled(text, name.as_str()) {
-        return Ok(false);
-    }
-    let name = name.copy()?;
     tokens.push(Token {
         kind: Kind::Name,
         value: Value::Name(name),
@@ -90,6 +55,7 @@ fn push_name(
     Ok(true)
 }
 
+#[inline(always)]
 fn push_plain(kind: Kind, at: Pos, tokens: &mut Vec<Token>) -> Result<(), Memory>
     ensures { OnOk result (tokens.new.items ≡ tokens.old.items ++ (token kind Nothing at ∷ [])) }
 {
@@ -101,24 +67,23 @@ fn push_plain(kind: Kind, at: Pos, tokens: &mut Vec<Token>) -> Result<(), Memory
     Ok(())
 }
 
-/// Pushes the keyword, or the name that was read lately, that begins with a letter here: how many characters it has. Where
-/// a new name begins, it gives 0.
+/// Pushes the keyword, or the short name of ASCII, that begins with a letter here: how many characters it has. Where another
+/// name begins, it gives 0.
 fn push_word(
-    spellings: &Spellings,
     at: Pos,
     first: char,
     rest: &[char],
     chars: &[char],
     tokens: &mut Vec<Token>,
 ) -> Result<usize, Memory>
-    requires { chars.now ≡ first ∷ rest.now }
+    requires parts { chars.now ≡ first ∷ rest.now }
+    requires letter { IsTrue (is_identifier_start first) }
     ensures none { IfOk result (λ len. len ≡ 0 → tokens.new.items ≡ tokens.old.items) }
     ensures some { IfOk result (λ len. 0 < len → (s : State) → IsPushed at (front_of_lexeme (word chars.now) s) len s tokens.old.items tokens.new.items) }
     ensures word { IfOk result (λ len. 0 < len → len ≡ word_len chars.now) }
     ensures within { IfOk result (λ len. len ≤ length chars.now) }
 {
-    let front = name_front(first, rest);
-    let len = 1 + front.len;
+    let len = 1 + name_len(rest);
     let (text, _) = chars.split_at(len);
     match keyword_of(text) {
         Some(keyword) => {
@@ -126,7 +91,7 @@ fn push_word(
             Ok(len)
         }
         None => {
-            if push_name(spellings, front.number, at, text, tokens)? {
+            if push_name(at, text, tokens)? {
                 Ok(len)
             } else {
                 Ok(0)
@@ -164,10 +129,9 @@ fn push_sign(
     }
 }
 
-/// Pushes the token at the front, if that is a keyword, a name that was read lately, or an operator of one character, inside
-/// a logical line: how many characters it has. Where anything else stands there, it pushes nothing and gives 0.
+/// Pushes the token at the front, if that is a keyword, a short name of ASCII, or an operator of one character, inside a
+/// logical line: how many characters it has. Where anything else stands there, it pushes nothing and gives 0.
 pub fn push_quick(
-    spellings: &Spellings,
     at: Pos,
     state: &mut State,
     chars: &[char],
@@ -189,7 +153,7 @@ pub fn push_quick(
             if has_quote_near(rest) {
                 Ok(0)
             } else {
-                push_word(spellings, at, *first, rest, chars, tokens)
+                push_word(at, *first, rest, chars, tokens)
             }
         }
         Class::Sign => push_sign(at, state, *first, rest, tokens),

@@ -4,11 +4,11 @@ use crate::spellings::Spellings;
 use crate::token::Token;
 use std::alloc::Global;
 
-/// What is kept from one text to the next while texts are read: room for characters and for tokens, and the names that were
-/// read lately. No answer depends on it.
+/// What is kept from one text to the next while texts are read: room for characters, for tokens, and for the spelling of one
+/// word or string. No answer depends on it.
 ///
 /// It keeps at most four bytes for each byte of the longest text, or eight where a text has characters outside ASCII, the
-/// room of the tokens that were handed back last, and 8,192 names.
+/// room of the tokens that were handed back last, and that of the longest spelling.
 #[derive(Debug, Drop)]
 pub struct Scratch {
     pub(crate) chars: Vec<char>,

@@ -37,12 +37,16 @@ fn widened(room: Vec<char>, bytes: &[u8]) -> Result<Vec<char>, AllocError>
     Ok(chars)
 }
 
-#[tactic(auto, using(std::proofs::lemmas::Str::chars_from_encodes))]
-fn chars_of(alloc: Global, text: &str) -> Result<Vec<char>, AllocError>
+/// The characters of a text, in this room.
+fn chars_of(room: Vec<char>, text: &str) -> Result<Vec<char>, AllocError>
     ensures same { IfOk result (λ v. v.items ≡ chars text.now) }
     ensures short { IfOk result (λ v. length v.items ≤ length text.now) }
 {
-    text.chars().collect(alloc)
+    let mut chars = room;
+    chars.clear();
+    chars.reserve(text.len())?;
+    chars.extend(text.chars())?;
+    Ok(chars)
 }
 
 fn without_mark(chars: &[char]) -> &[char]
@@ -55,10 +59,15 @@ fn without_mark(chars: &[char]) -> &[char]
     }
 }
 
+/// Whether one of the characters is a CR. It looks at each, which is faster than to stop at the first.
 fn has_return(chars: &[char]) -> bool
     ensures { result ≡ list_any (λ c. c == 13) chars.now }
 {
-    chars.iter().any(|c| *c == '\r')
+    let mut found = false;
+    for c in chars {
+        found |= *c == '\r';
+    }
+    found
 }
 
 fn has_mark(chars: &[char]) -> bool
@@ -96,7 +105,7 @@ fn line_ends(alloc: Global, chars: &[char]) -> Result<Vec<char>, Memory>
 }
 
 /// The characters of a text without the byte order mark at its start, each line end (CR LF, CR or LF) as one LF
-/// (Language Reference, 2.1.2 and 2.1.4). They stand in this room, if they are those of most texts. Linear in the text.
+/// (Language Reference, 2.1.2 and 2.1.4). They stand in this room, if no CR and no mark is left out. Linear in the text.
 #[tactic(auto, using(crate::proofs::Unchanged::plain_source))]
 pub fn source_chars(alloc: Global, room: Vec<char>, text: &str) -> Result<Vec<char>, Memory>
     ensures same { IfOk result (λ v. v.items ≡ source_chars (chars text.now)) }
@@ -105,7 +114,7 @@ pub fn source_chars(alloc: Global, room: Vec<char>, text: &str) -> Result<Vec<ch
     if are_plain(text.as_bytes()) {
         return Ok(widened(room, text.as_bytes())?);
     }
-    let chars = chars_of(alloc, text)?;
+    let chars = chars_of(room, text)?;
     if is_read_as_it_is(&chars) {
         Ok(chars)
     } else {

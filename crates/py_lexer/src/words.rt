@@ -1,48 +1,26 @@
 //! Keywords, names and numbers.
 
-ghost use Rattle.std.specs.Prelude.{◌≡◌, ◌∷◌, ◌≤◌, ◌<◌, length, take, IfOk, IsTrue, Some, None, encode_utf8_all, IfSome};
+ghost use Rattle.std.specs.Prelude.{◌≡◌, ◌∷◌, ◌≤◌, ◌<◌, length, take, IfOk, IsTrue, Some, None, encode_utf8_all};
 ghost use Rattle.rv_names.specs.Identifier.{is_identifier_start, is_identifier_continue, is_spelled_as_identifier};
 ghost use Rattle.py_lexer.specs.Words.{next_is, IsNarrow, word_by, word_of, word_len, word, number_of, number_by, number};
 
 use crate::chars::{may_continue_name, name_len};
 use crate::keywords::keyword_of;
 use crate::piece::Lexeme;
-use crate::spellings::{Names, Spellings, is_spelled, spell};
+use crate::spellings::{Spellings, spell};
 use crate::token::{Kind, LexKind, Value};
 use py_literals::number::{NumberValue, number};
 use rv_names::{Memory, Name, NameFault};
 use std::alloc::Global;
 
-/// The name, if it is the last one at the place: it costs a counter.
-fn kept_name(names: &Names, place: usize, text: &[char]) -> Result<Option<Lexeme>, Memory>
-    ensures { IfOk result (λ found. IfSome found (λ lexeme. lexeme ≡ word_by (length text.now) text.now None)) }
-{
-    let Some(name) = names.last(place) else {
-        return Ok(None);
-    };
-    if !is_spelled(text, name.as_str()) {
-        return Ok(None);
-    }
-    let name = name.copy()?;
-    Ok(Some(Lexeme::Spelled(text.len(), Kind::Name, Value::Name(name))))
-}
-
-fn new_name(
-    alloc: Global,
-    names: &mut Names,
-    place: usize,
-    text: &[char],
-    spelled: &str,
-) -> Result<Lexeme, Memory>
+/// The name of this spelling.
+fn read_name(alloc: Global, text: &[char], spelled: &str) -> Result<Lexeme, Memory>
     requires identifier { IsTrue (is_spelled_as_identifier text.now) }
     requires same { spelled.now ≡ encode_utf8_all text.now }
     ensures { IfOk result (λ lexeme. lexeme ≡ word_by (length text.now) text.now None) }
 {
     match Name::read(alloc, spelled) {
-        Ok(name) => {
-            names.keep(place, name.copy()?);
-            Ok(Lexeme::Spelled(text.len(), Kind::Name, Value::Name(name)))
-        }
+        Ok(name) => Ok(Lexeme::Spelled(text.len(), Kind::Name, Value::Name(name))),
         Err(NameFault::NotIdent) => Ok(Lexeme::Refused(LexKind::NotNormal, 0)),
         Err(NameFault::Memory) => Err(Memory),
     }
@@ -52,13 +30,11 @@ fn name_of(alloc: Global, spellings: &mut Spellings, text: &[char]) -> Result<Le
     requires { IsTrue (is_spelled_as_identifier text.now) }
     ensures { IfOk result (λ lexeme. lexeme ≡ word_by (length text.now) text.now None) }
 {
-    let place = spellings.names.place(text);
-    if let Some(lexeme) = kept_name(&spellings.names, place, text)? {
-        return Ok(lexeme);
+    if let Some(name) = Name::ascii(text) {
+        return Ok(Lexeme::Spelled(text.len(), Kind::Name, Value::Name(name)));
     }
     spell(alloc, &mut spellings.room, text)?;
-    let spelled = spellings.room.as_str();
-    new_name(alloc, &mut spellings.names, place, text, spelled)
+    read_name(alloc, text, spellings.room.as_str())
 }
 
 fn word_of(alloc: Global, spellings: &mut Spellings, text: &[char]) -> Result<Lexeme, Memory>

@@ -1,10 +1,10 @@
 use Rattle.std.proofs.Common.{◌≡◌, ◌+◌, drop}
 use Rattle.std.specs.List.{prefix_len}
 use Rattle.rv_names.specs.Identifier.{is_identifier_continue}
-use Rattle.py_lexer.proofs.quick.name_front.Given as goal
+use Rattle.py_lexer.proofs.chars.name_len.Given as goal
 
 abbrev pub invariant-loop-c : goal.invariant-loop-c
 invariant-loop-c l = record {
   len : l.len ≡ l.c-index;
-  same : l.len + prefix_len is_identifier_continue (drop l.c-index l.rest) ≡ prefix_len is_identifier_continue l.rest;
+  same : l.len + prefix_len is_identifier_continue (drop l.c-index l.chars) ≡ prefix_len is_identifier_continue l.chars;
 }
