@@ -121,8 +121,7 @@ pub fn read_file(alloc: Global, path: &str, bytes: &[u8]) -> Result<Item, ReadFa
     read_file_with(alloc, &mut scratch, path, bytes)
 }
 
-/// What `read_file` answers. The names of the Python files that were read before with the same scratch are shared where they
-/// come again.
+/// What `read_file` answers. Python files are read in the room that the scratch keeps from one to the next.
 #[tactic(auto, using(crate::proofs::Files::accepted, crate::proofs::Files::fits, crate::proofs::Files::misplaced, crate::proofs::Files::misread, crate::proofs::Files::unreadable))]
 pub fn read_file_with(
     alloc: Global,

@@ -98,8 +98,7 @@ pub fn parse(alloc: Global, text: &str) -> Result<Parsed, FileError>
     parse_with(alloc, &mut scratch, text)
 }
 
-/// What `parse` answers. The names that were read lately with the same scratch, as many as it keeps, are shared where they come
-/// again.
+/// What `parse` answers, read in the room that the scratch keeps from one text to the next.
 pub fn parse_with(alloc: Global, scratch: &mut Scratch, text: &str) -> Result<Parsed, FileError>
     requires { length text.now < 2 ^ 31 }
     ensures text { IfOk result (λ p. p.text ≡ text.now) }

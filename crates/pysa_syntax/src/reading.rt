@@ -67,7 +67,7 @@ fn models_of(alloc: Global, tokens: &[Token]) -> Result<Items<Decl>, ModelError>
 ///   `SkipAnalysis`, `SkipOverrides` or `Sanitize`, and `ModelQuery` before a `(` where a logical line begins;
 /// * `Memory` comes only where there is no memory left.
 ///
-/// Linear in the length of the text. Names are shared with the tokens.
+/// Linear in the length of the text. Long names are shared with the tokens.
 pub fn read_models(alloc: Global, text: &str) -> Result<Items<Decl>, ModelError>
     requires { length text.now < 2 ^ 31 }
     ensures models { IfOk result (HasModels (chars text.now)) }
