@@ -142,36 +142,37 @@ fn tokens_of(
     alloc: Global,
     room: Vec<Token>,
     spellings: &mut Spellings,
+    state: &mut State,
     text: &[char],
 ) -> Result<Vec<Token>, LexError>
-    requires { length text.now < 2 ^ 31 }
+    requires short { length text.now < 2 ^ 31 }
+    requires begun { state.old ≡ start }
     ensures tokens { IfOk result (λ v. Tokens first_place start text.now v.items) }
     ensures fault { IfErr result (IsFaultOf text.now) }
 {
     let mut tokens = no_tokens(room, text.len())?;
-    let mut state = State::new(alloc);
     let mut at = Pos { line: 1, col: 1 };
     let mut rest = text;
     'pieces: loop {
-        if let Some(behind) = behind_gap(&mut state, rest) {
+        if let Some(behind) = behind_gap(state, rest) {
             at.col += (rest.len() - behind.len()) as u32;
             rest = behind;
             continue 'pieces;
         }
-        let quick = push_quick(at, &mut state, rest, &mut tokens)?;
+        let quick = push_quick(at, state, rest, &mut tokens)?;
         if quick > 0 {
             at.col += quick as u32;
             let (_, behind) = rest.split_at(quick);
             rest = behind;
             continue 'pieces;
         }
-        let ended = push_line_end(at, &mut state, rest, &mut tokens)?;
+        let ended = push_line_end(at, state, rest, &mut tokens)?;
         if ended {
             at = next_line(at);
             rest = parted(rest, 1).1;
             continue 'pieces;
         }
-        match piece(alloc, spellings, at, &mut state, rest)? {
+        match piece(alloc, spellings, at, state, rest)? {
             Piece::Found(len, kind, value) => {
                 tokens.push(Token { kind, value, at })?;
                 let (front, behind) = parted(rest, len);
@@ -225,7 +226,14 @@ pub fn lex_with(alloc: Global, scratch: &mut Scratch, text: &str) -> Result<Vec<
     let room = mem::replace(&mut scratch.chars, Vec::new(alloc));
     let chars = source_chars(alloc, room, text)?;
     let room = mem::replace(&mut scratch.tokens, Vec::new(alloc));
-    let tokens = tokens_of(alloc, room, &mut scratch.spellings, &chars);
+    scratch.state.begin();
+    let tokens = tokens_of(
+        alloc,
+        room,
+        &mut scratch.spellings,
+        &mut scratch.state,
+        &chars,
+    );
     scratch.chars = chars;
     tokens
 }

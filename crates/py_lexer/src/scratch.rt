@@ -1,18 +1,21 @@
 //! What is kept from one text to the next.
 
 use crate::spellings::Spellings;
+use crate::state::State;
 use crate::token::Token;
 use std::alloc::Global;
 
-/// What is kept from one text to the next while texts are read: room for characters, for tokens, and for the spelling of one
-/// word or string. No answer depends on it.
+/// What is kept from one text to the next while texts are read: room for characters, for tokens, for the open brackets and
+/// blocks, and for the spelling of one word or string. No answer depends on it.
 ///
 /// It keeps at most four bytes for each byte of the longest text, or eight where a text has characters outside ASCII, the
-/// room of the tokens that were handed back last, and that of the longest spelling.
+/// room of the tokens that were handed back last, that of the longest spelling, and that of the most brackets and blocks that
+/// were open at once.
 #[derive(Debug, Drop)]
 pub struct Scratch {
     pub(crate) chars: Vec<char>,
     pub(crate) spellings: Spellings,
+    pub(crate) state: State,
     pub(crate) tokens: Vec<Token>,
 }
 
@@ -22,6 +25,7 @@ impl Scratch {
         Scratch {
             chars: Vec::new(alloc),
             spellings: Spellings::new(alloc),
+            state: State::new(alloc),
             tokens: Vec::new(alloc),
         }
     }

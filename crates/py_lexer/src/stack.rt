@@ -34,6 +34,13 @@ impl Blocks {
         }
     }
 
+    /// Closes them all, and keeps their room.
+    pub fn clear(&mut self)
+        ensures { self.new ≡ [] }
+    {
+        self.columns.clear();
+    }
+
     /// Opens a block in it.
     pub fn open(&mut self, column: usize) -> Result<(), Memory>
         ensures { OnOk result (self.new ≡ column ∷ self.old) }
@@ -90,6 +97,13 @@ impl Brackets {
         Brackets {
             places: Vec::new(alloc),
         }
+    }
+
+    /// Closes them all, and keeps their room.
+    pub fn clear(&mut self)
+        ensures { self.new ≡ [] }
+    {
+        self.places.clear();
     }
 
     /// Opens a bracket that stands at this place.

@@ -43,14 +43,22 @@ pub struct State {
 
 impl State {
     /// Before the first character of a text.
-    pub fn new(alloc: Global) -> State
-        ensures { result ≡ start }
-    {
+    pub fn new(alloc: Global) -> State {
         State {
             mode: Mode::LineStart,
             brackets: Brackets::new(alloc),
             blocks: Blocks::new(alloc),
             white: None,
         }
+    }
+
+    /// Goes before the first character of a further text, and keeps the room of what was open.
+    pub fn begin(&mut self)
+        ensures { self.new ≡ start }
+    {
+        self.mode = Mode::LineStart;
+        self.brackets.clear();
+        self.blocks.clear();
+        self.white = None;
     }
 }

@@ -33,10 +33,15 @@ fn quotes_at(opening: &Opening) -> usize
     opening.len.saturating_sub(quotes_len(&opening.kind))
 }
 
+/// Whether one of the characters is a backslash. It looks at each, which is faster than to stop at the first.
 fn has_backslash(body: &[char]) -> bool
     ensures { result ≡ list_any (λ c. c == 92) body.now }
 {
-    body.iter().any(|c| *c == '\\')
+    let mut found = false;
+    for c in body {
+        found |= *c == '\\';
+    }
+    found
 }
 
 /// Whether the body is its own value, as most are.
