@@ -12,6 +12,7 @@ mod remark;
 mod statement;
 mod target;
 mod tree;
+mod whole_number;
 
 pub use binding::{Binding, BindingKind, Display, How, ScopeFault, Use};
 pub use chain::{anchor_after, node_after};
@@ -28,3 +29,4 @@ pub use tree::{
     Argument, BinaryOperator, Comparator, Compared, Constant, Expr, Form, Joined, NameAt, Operand,
     Pair, Part, Piece, Step, StepForm, UnaryOperator,
 };
+pub use whole_number::WholeNumber;

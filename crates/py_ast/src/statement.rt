@@ -4,7 +4,7 @@
 
 use crate::tree::{Argument, Expr, NameAt};
 use py_literals::place::Pos;
-use sqlite_items::Items;
+use sqlite_items::{Boxed, Items};
 
 /// A dotted name.
 #[derive(Drop)]
@@ -26,7 +26,7 @@ pub struct Stmt {
     pub form: StmtForm,
 }
 
-/// What a statement is.
+/// What a statement is. What only few statements have is boxed, so that none takes more room than an assignment.
 #[cycle(block)]
 #[derive(Drop)]
 pub enum StmtForm {
@@ -35,11 +35,11 @@ pub enum StmtForm {
     /// A target, and the value that is assigned to it (7.2).
     Assign(Expr, Expr),
     /// A target, its annotation, and the value if there is one (7.2.2).
-    Annotate(Expr, Expr, Option<Expr>),
+    Annotate(Expr, Boxed<Expr>, Option<Boxed<Expr>>),
     /// A target, the operator, and the right operand (7.2.1).
-    Augment(Expr, AugmentOperator, Expr),
+    Augment(Expr, AugmentOperator, Boxed<Expr>),
     /// A condition, and what is said where it fails (7.3).
-    Assert(Expr, Option<Expr>),
+    Assert(Expr, Option<Boxed<Expr>>),
     /// 7.4.
     Pass,
     /// 7.6.
@@ -99,7 +99,7 @@ pub struct Function {
     pub decorators: Items<Decorator>,
     pub name: NameAt,
     pub parameters: Items<Parameter>,
-    pub returns: Option<Expr>,
+    pub returns: Option<Boxed<Expr>>,
     pub body: Items<Stmt>,
 }
 
@@ -174,9 +174,9 @@ pub enum Tail {
     /// `=` and the value.
     Assigned(Pos, Expr),
     /// `:`, the annotation, and the value if there is one.
-    Annotated(Pos, Expr, Option<Expr>),
+    Annotated(Pos, Boxed<Expr>, Option<Boxed<Expr>>),
     /// The operator and the right operand.
-    Augmented(AugmentOperator, Pos, Expr),
+    Augmented(AugmentOperator, Pos, Boxed<Expr>),
 }
 
 /// A module: the statements of a file (9.2).

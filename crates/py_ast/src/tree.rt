@@ -3,6 +3,7 @@
 //! Nothing nests in a tree but what nests in the text: chains of calls, subscripts and attributes, the operands of one
 //! level, comparisons and arguments are lists. Parentheses make no node.
 
+use crate::whole_number::WholeNumber;
 use py_literals::place::Pos;
 use rv_names::{Name, Text};
 use sqlite_items::{Boxed, Items};
@@ -40,7 +41,7 @@ pub enum Form {
     /// A name (6.2.1).
     Name(Name),
     /// A whole number (6.2.2).
-    Number(i128),
+    Number(WholeNumber),
     /// Strings that aren't formatted, neighbours joined (2.4.2).
     Text(Text),
     /// Strings of which one at least is formatted: the parts of all (2.4.3).
