@@ -119,16 +119,14 @@ pub fn path(alloc: Global, bytes: &[u8], end: u8) -> Result<(Text, &[u8]), Stop>
     Ok((path, after))
 }
 
-/// A text of bytes that are all ASCII.
+/// A text of bytes that are all ASCII, which aren't looked at again.
 fn ascii(alloc: Global, bytes: &[u8]) -> Result<Text, Stop>
     requires { IsAscii bytes.now }
     ensures ok { IfOk result (λ t. t ≡ bytes.now) }
     ensures err { IfErr result (λ stop. stop ≡ stops.Memory) }
 {
-    match str::from_utf8(bytes) {
-        Ok(text) => Ok(Text::read(alloc, text)?),
-        Err(_) => Err(Stop::Memory),
-    }
+    let text = unsafe { str::from_utf8_unchecked(bytes) };
+    Ok(Text::read(alloc, text)?)
 }
 
 /// What digits stand for, where it fits 32 bits.
@@ -137,10 +135,8 @@ fn value_of(digits: &[u8]) -> Option<u32>
     requires some { 0 < length digits.now }
     ensures { SomeIff result (digits_value 10 digits.now < 2 ^ 32) (digits_value 10 digits.now) }
 {
-    match str::from_utf8(digits) {
-        Ok(digits) => parsed(digits),
-        Err(_) => None,
-    }
+    let digits = unsafe { str::from_utf8_unchecked(digits) };
+    parsed(digits)
 }
 
 fn parsed(digits: &str) -> Option<u32>
