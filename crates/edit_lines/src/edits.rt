@@ -9,11 +9,16 @@ use project::Which;
 use rv_names::{Memory, Text};
 use std::alloc::Global;
 
+/// How many bytes the line of an edit that was kept has at most.
+const KEPT_ROOM: usize = 16;
+
 /// The line of an edit that was kept, as `edit 7`: it is the one with this number, from 1.
 pub fn kept_line(alloc: Global, number: u32) -> Result<String, Memory>
     ensures { IfOk result (λ line. string_bytes line ≡ kept_line number) }
 {
-    Ok(format!(in alloc; "edit {number}\n")?)
+    let mut line = String::with_capacity(alloc, KEPT_ROOM)?;
+    write!(line, "edit {number}\n")?;
+    Ok(line)
 }
 
 /// The line of an edit whose file is refused, as `refused app.py:3:5 BadDedent`: the file's path, and the fault with its
