@@ -97,7 +97,7 @@ pub fn nest(alloc: Global, expr: &Expr, calls: &mut Items<Call>) -> Result<(), R
 {
     match &expr.form {
         Form::Number(number) => {
-            if is_small(*number) {
+            if is_small(number.get()) {
                 Ok(())
             } else {
                 Err(Refusal::NotCut)

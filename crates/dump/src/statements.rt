@@ -2,10 +2,11 @@
 
 use crate::trees::{write_argument, write_expr, write_line, write_name};
 use py_ast::{
-    AugmentOperator, Branch, Class, Decorator, Dotted, Function, Imported, ImportedName, Module,
-    NameAt, Parameter, Stmt, StmtForm,
+    AugmentOperator, Branch, Class, Decorator, Dotted, Expr, Function, Imported, ImportedName,
+    Module, NameAt, Parameter, Stmt, StmtForm,
 };
 use py_literals::place::Pos;
+use sqlite_items::Boxed;
 use std::io::{self, Write};
 
 /// Writes the statements of a module.
@@ -91,7 +92,7 @@ fn write_function<W: Write + Drop>(out: &mut W, function: &Function, depth: u32)
     }
     if let Some(returns) = &function.returns {
         writeln!(out, "{depth} returns")?;
-        write_expr(out, returns, depth.saturating_add(1))?;
+        write_expr(out, returns.get(), depth.saturating_add(1))?;
     }
     write_block(out, function.body.as_slice(), "body", depth)
 }
@@ -111,20 +112,24 @@ fn write_class<W: Write + Drop>(out: &mut W, class: &Class, depth: u32) -> io::R
 fn write_simple<W: Write + Drop>(out: &mut W, form: &StmtForm, depth: u32) -> io::Result<()> {
     match form {
         StmtForm::Expression(value) => write_expr(out, value, depth),
-        StmtForm::Assign(target, value) | StmtForm::Augment(target, _, value) => {
+        StmtForm::Assign(target, value) => {
             write_expr(out, target, depth)?;
             write_expr(out, value, depth)
         }
+        StmtForm::Augment(target, _, value) => {
+            write_expr(out, target, depth)?;
+            write_expr(out, value.get(), depth)
+        }
         StmtForm::Annotate(target, annotation, value) => {
             write_expr(out, target, depth)?;
-            write_expr(out, annotation, depth)?;
+            write_expr(out, annotation.get(), depth)?;
             write_optional(out, value, depth)
         }
         StmtForm::Assert(condition, message) => {
             write_expr(out, condition, depth)?;
             write_optional(out, message, depth)
         }
-        StmtForm::Return(value) => write_optional(out, value, depth),
+        StmtForm::Return(Some(value)) => write_expr(out, value, depth),
         StmtForm::Import(modules) => {
             for module in modules.as_slice() {
                 write_imported(out, module, depth)?;
@@ -144,12 +149,12 @@ fn write_simple<W: Write + Drop>(out: &mut W, form: &StmtForm, depth: u32) -> io
 
 fn write_optional<W: Write + Drop>(
     out: &mut W,
-    value: &Option<py_ast::Expr>,
+    value: &Option<Boxed<Expr>>,
     depth: u32,
 ) -> io::Result<()> {
     match value {
         None => Ok(()),
-        Some(value) => write_expr(out, value, depth),
+        Some(value) => write_expr(out, value.get(), depth),
     }
 }
 

@@ -180,7 +180,7 @@ fn write_head<W: Write + Drop>(out: &mut W, expr: &Expr, depth: u32) -> io::Resu
 fn write_value<W: Write + Drop>(out: &mut W, form: &Form) -> io::Result<()> {
     match form {
         Form::Name(name) => write!(out, " {name}"),
-        Form::Number(number) => write!(out, " {number}"),
+        Form::Number(number) => write!(out, " {}", number.get()),
         Form::Text(text) => write_text(out, text),
         _ => Ok(()),
     }

@@ -16,6 +16,7 @@ use crate::class::{
 use phrases::{Fault, Stop};
 use py_ast::{
     BinaryOperator, Comparator, Constant, Expr, Form, NameAt, Part, Piece, UnaryOperator,
+    WholeNumber,
 };
 use py_lexer::{Kind, Token, Value};
 use py_literals::place::Pos;
@@ -92,7 +93,7 @@ fn leaf_form(kind: Kind, value: &Value) -> Result<Option<Form>, Memory>
             _ => Ok(None),
         },
         Kind::Number => match value {
-            Value::Whole(number) => Ok(Some(Form::Number(*number))),
+            Value::Whole(number) => Ok(Some(Form::Number(WholeNumber::new(*number)))),
             _ => Ok(None),
         },
         Kind::False => Ok(Some(Form::Constant(Constant::False))),

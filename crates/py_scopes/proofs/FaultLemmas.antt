@@ -16,9 +16,11 @@ use Rattle.py_ast.specs.declared.statement.Function.{Function}
 use Rattle.py_ast.specs.declared.statement.Module.{Module}
 use Rattle.py_ast.specs.declared.statement.Parameter.{Parameter}
 use Rattle.py_ast.specs.declared.statement.Stmt.{Stmt}
+use Rattle.py_scopes.specs.Listed.{is_wanted}
 use Rattle.py_scopes.specs.Names.{is_named, is_variable_of}
 use Rattle.py_scopes.specs.Scopes.{function_scope}
 use Rattle.py_scopes.specs.declared.layers.FunctionScope.{FunctionScope}
+use Rattle.py_scopes.specs.declared.uses.Wanted.TheVariants.{Calls}
 
 pub fold_more : (known : Option ScopeFault) (fs gs : List ScopeFault) → fold sooner (fold sooner known fs) gs ≡ fold sooner known (fs ++ gs)
 fold_more known fs gs = sym (fold-append sooner known fs gs)
@@ -89,29 +91,37 @@ named_parameter n (p ∷ ps) = ap (λ t. bytes_equal p.name.name n || t) (named_
 pub fresh_known : (known : Option ScopeFault) (bs cs : List Binding) → bs ≡ cs → bound_twice bs ≡ [] → known ≡ fold sooner known (bound_twice cs)
 fresh_known known bs cs same none = ap (fold sooner known) (sym none) ∙ ap (λ ds. fold sooner known (bound_twice ds)) same
 
--- where no use is a call, none is the call of a variable
-no_calls : (p : Bytes → Bool) (us : Uses) → list_any (λ u. is_called u.how) us ≡ false → variable_calls p us ≡ []
-no_calls p [] e = refl
-no_calls p (u ∷ us) e = by (is_called u.how) e (no_calls p us)
+-- the calls of variables are among the calls
+abbrev pub calls_in : Uses → Uses
+calls_in us = filter (is_wanted Calls) us
+
+pub calls_alone : (p : Bytes → Bool) (us : Uses) → variable_calls p (calls_in us) ≡ variable_calls p us
+calls_alone p us = ap (map variable_call) (among us)
   where
-    rest : Uses
-    rest = filter (λ v. is_called v.how && p v.name) us
+    named : Uses → Uses
+    named vs = filter (λ v. is_called v.how && p v.name) vs
 
-    by : (t : Bool) → t || list_any (λ v. is_called v.how) us ≡ false → (list_any (λ v. is_called v.how) us ≡ false → map variable_call rest ≡ []) → map variable_call (cond (t && p u.name) (u ∷ rest) rest) ≡ []
-    by true f more = absurd (cc f)
-    by false f more = more f
+    among : (us : Uses) → named (calls_in us) ≡ named us
+    among [] = refl
+    among (u ∷ us) = by (is_called u.how) refl (among us)
+      where
+        by : (t : Bool) → is_called u.how ≡ t → named (calls_in us) ≡ named us → named (cond t (u ∷ calls_in us) (calls_in us)) ≡ cond (t && p u.name) (u ∷ named us) (named us)
+        by true e more = ap (λ x. cond (x && p u.name) (u ∷ named (calls_in us)) (named (calls_in us))) e ∙ ap (λ vs. cond (p u.name) (u ∷ vs) vs) more
+        by false e more = more
 
-pub quiet_known : (p : Bytes → Bool) (known : Option ScopeFault) (us vs : Uses) → us ≡ vs → list_any (λ u. is_called u.how) us ≡ false → known ≡ fold sooner known (variable_calls p vs)
-quiet_known p known us vs same quiet = ap (fold sooner known) (sym (no_calls p us quiet)) ∙ ap (λ ws. fold sooner known (variable_calls p ws)) same
+-- where nothing is called, no variable is
+pub quiet_known : (p : Bytes → Bool) (known : Option ScopeFault) (us : Uses) → calls_in us ≡ [] → known ≡ fold sooner known (variable_calls p us)
+quiet_known p known us quiet = ap (fold sooner known) (sym (sym (calls_alone p us) ∙ ap (variable_calls p) quiet))
 
 -- of the calls in a function, by its locals and what its body uses
 pub call_known : (g : Bytes → Bool) (f : Function) (known last : Option ScopeFault) (ls : List Binding) (us : Uses)
-    → ls ≡ locals f → us ≡ used_in_body f
+    → ls ≡ locals f → us ≡ calls_in (used_in_body f)
     → last ≡ fold sooner known (variable_calls (λ n. is_named n ls || g n) us)
     → last ≡ fold sooner known (variable_calls (λ n. is_named n (locals f) || g n) (used_in_body f))
 call_known g f known last ls us own used e =
     e ∙ ap (λ ms. fold sooner known (variable_calls (λ n. is_named n ms || g n) us)) own
     ∙ ap (λ vs. fold sooner known (variable_calls (λ n. is_named n (locals f) || g n) vs)) used
+    ∙ ap (fold sooner known) (calls_alone (λ n. is_named n (locals f) || g n) (used_in_body f))
 
 -- of a function, by its parameters and then by the calls in it
 pub faults_known : (g : Bytes → Bool) (f : Function) (known first last : Option ScopeFault) (ps : List Binding)
@@ -124,13 +134,14 @@ faults_known g f known first last ps own twice e =
 
 -- of a module's top level, where there are no locals
 pub module_known : (m : Module) (last : Option ScopeFault) (gs locals : List Binding) (us : Uses)
-    → gs ≡ globals m → locals ≡ [] → us ≡ used_in_all m.body
+    → gs ≡ globals m → locals ≡ [] → us ≡ calls_in (used_in_all m.body)
     → last ≡ fold sooner None (bound_twice gs ++ variable_calls (λ n. is_named n locals || is_variable_of n gs) us)
     → last ≡ fold sooner None (bound_twice (globals m) ++ variable_calls (is_global_variable m) (used_in_all m.body))
 module_known m last gs locals us own none used e =
     e ∙ ap (λ ls. fold sooner None (bound_twice gs ++ variable_calls (λ n. is_named n ls || is_variable_of n gs) us)) none
     ∙ ap (λ hs. fold sooner None (bound_twice hs ++ variable_calls (λ n. is_variable_of n hs) us)) own
     ∙ ap (λ vs. fold sooner None (bound_twice (globals m) ++ variable_calls (is_global_variable m) vs)) used
+    ∙ ap (λ fs. fold sooner None (bound_twice (globals m) ++ fs)) (calls_alone (is_global_variable m) (used_in_all m.body))
 
 -- of a class, by its methods and then by the functions in it
 pub class_known : (g : Bytes → Bool) (c : Class) (known before last : Option ScopeFault) (ss ts : List Stmt) (members methods : List Binding)

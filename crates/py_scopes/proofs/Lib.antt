@@ -1,3 +1,4 @@
 pub mod FactLemmas
 pub mod FaultLemmas
 pub mod UsageLemmas
+pub mod UseLemmas

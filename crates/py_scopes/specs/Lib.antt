@@ -1,4 +1,5 @@
 pub mod Facts
 pub mod Names
 pub mod Kept
+pub mod Listed
 pub mod Scopes

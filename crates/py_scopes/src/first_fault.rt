@@ -4,26 +4,19 @@ ghost use Rattle.std.specs.Prelude.{◌≡◌, ◌||◌, [], true, map, IfOk, If
 ghost use Rattle.std.specs.List.{flat_map, fold, list_any};
 ghost use Rattle.rv_names.specs.Keys.{bytes_equal};
 ghost use Rattle.py_ast.specs.Bindings.{parameter};
-ghost use Rattle.py_ast.specs.ScopeFaults.{sooner, bound_twice, variable_calls, is_called, locals, functions, classes, used_in_body, function_faults, class_faults, scope_fault, HasNoScopeFault};
+ghost use Rattle.py_ast.specs.ScopeFaults.{sooner, bound_twice, variable_calls, locals, functions, classes, used_in_body, function_faults, class_faults, scope_fault, HasNoScopeFault};
 ghost use Rattle.py_scopes.specs.Names.{is_named, is_variable_of};
 ghost use Rattle.py_scopes.specs.Scopes.{IsFaultOf};
 
 use crate::error::ScopeError;
 use crate::faults::{bound_twice, variable_calls};
 use crate::module::{
-    bindings_of, locals_of, methods_of, module_fault, parameters_of, scope_of, uses_of,
+    bindings_of, calls_of, locals_of, methods_of, module_fault, parameters_of, scope_of,
 };
 use crate::scope::{FEW, Scope};
-use py_ast::{Class, Function, How, Module, Parameter, ScopeFault, Stmt, StmtForm, Use};
+use py_ast::{Class, Function, Module, Parameter, ScopeFault, Stmt, StmtForm};
 use rv_names::{Memory, Name};
 use std::alloc::Global;
-
-/// Whether one of the uses is a call.
-fn has_call(uses: &[Use]) -> bool
-    ensures { result ≡ list_any (λ u. is_called u.how) uses.now }
-{
-    uses.iter().any(|used| matches!(used.how, How::Called))
-}
 
 /// The sooner of what is known and of the calls of variables in a function. Where it calls no name, its locals aren't asked.
 fn call_fault(
@@ -34,12 +27,12 @@ fn call_fault(
 ) -> Result<Option<ScopeFault>, Memory>
     ensures { IfOk result (λ f. f ≡ fold sooner known (variable_calls (λ n. is_named n (locals function.now) || is_variable_of n globals.now) (used_in_body function.now))) }
 {
-    let uses = uses_of(alloc, function.body.as_slice())?;
-    if !has_call(uses.as_slice()) {
+    let calls = calls_of(alloc, function.body.as_slice())?;
+    if calls.is_empty() {
         return Ok(known);
     }
     let locals = locals_of(alloc, function)?;
-    Ok(variable_calls(uses.as_slice(), &locals, globals, known))
+    Ok(variable_calls(calls.as_slice(), &locals, globals, known))
 }
 
 fn has_name(items: &[Parameter], name: &Name) -> bool

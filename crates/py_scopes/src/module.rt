@@ -7,8 +7,10 @@ ghost use Rattle.py_ast.specs.Kinds.{is_init};
 ghost use Rattle.py_ast.specs.Owned as spec;
 ghost use Rattle.py_ast.specs.ScopeFaults.{sooner, bound_twice, variable_calls, locals, is_method, globals, functions, classes, used_in_body, is_global_variable, function_faults, class_faults, scope_fault, HasNoScopeFault};
 ghost use Rattle.py_ast.specs.Uses.{used_in_all};
+ghost use Rattle.py_scopes.specs.Listed.{is_wanted};
 ghost use Rattle.py_scopes.specs.Names.{is_named, is_variable_of};
 ghost use Rattle.py_scopes.specs.Scopes.{function_scope, class_scope, scopes_of, IsFaultOf};
+ghost use Rattle.py_scopes.specs.declared.uses.Wanted.TheVariants.{Calls};
 
 use crate::error::ScopeError;
 use crate::faults::{bound_twice, variable_calls};
@@ -17,6 +19,7 @@ use crate::layers::{ClassScope, FunctionScope, Scopes};
 use crate::owned::{copy, first_owned, locals_owned};
 use crate::scope::Scope;
 use crate::usage::Usage;
+use crate::uses::Wanted;
 use crate::{bindings, statements};
 use py_ast::{Binding, Class, Function, Module, Parameter, ScopeFault, Stmt, StmtForm, Use};
 use rv_names::{Memory, Name};
@@ -40,11 +43,21 @@ pub fn scope_of(alloc: Global, stmts: &[Stmt]) -> Result<Scope, Memory>
 }
 
 /// The uses of names in the statements.
+#[tactic(auto, using(crate::proofs::UseLemmas::all_listed))]
 pub fn uses_of(alloc: Global, stmts: &[Stmt]) -> Result<Items<Use>, Memory>
     ensures { IfOk result (λ us. us ≡ used_in_all stmts.now) }
 {
     let mut found = Items::new(alloc);
-    statements::block(stmts, &mut found)?;
+    statements::block(stmts, Wanted::All, &mut found)?;
+    Ok(found)
+}
+
+/// The calls of names in the statements.
+pub fn calls_of(alloc: Global, stmts: &[Stmt]) -> Result<Items<Use>, Memory>
+    ensures { IfOk result (λ us. us ≡ filter (is_wanted Calls) (used_in_all stmts.now)) }
+{
+    let mut found = Items::new(alloc);
+    statements::block(stmts, Wanted::Calls, &mut found)?;
     Ok(found)
 }
 
@@ -250,9 +263,9 @@ pub fn module_fault(
     requires { variables.now ≡ globals tree.now }
     ensures { IfOk result (λ f. f ≡ fold sooner None (bound_twice (globals tree.now) ++ variable_calls (is_global_variable tree.now) (used_in_all tree.now.body))) }
 {
-    let uses = uses_of(alloc, tree.body.as_slice())?;
+    let calls = calls_of(alloc, tree.body.as_slice())?;
     let locals = Scope::new(alloc, Items::new(alloc))?;
-    body_fault(variables, &locals, uses.as_slice(), variables, None)
+    body_fault(variables, &locals, calls.as_slice(), variables, None)
 }
 
 /// The scopes of the module, and its fault of least place.

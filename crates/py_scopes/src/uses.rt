@@ -1,7 +1,8 @@
 //! The names that expressions use.
 
-ghost use Rattle.std.specs.Prelude.{◌≡◌, ◌++◌, ◌∷◌, [], true, OnOk, map};
+ghost use Rattle.std.specs.Prelude.{◌≡◌, ◌++◌, ◌∷◌, [], true, filter, OnOk, map};
 ghost use Rattle.std.specs.List.{flat_map};
+ghost use Rattle.py_scopes.specs.Listed.{is_how_wanted, is_wanted};
 ghost use Rattle.py_ast.specs.Uses.{used, used_in, as_other, together, base_how, chained_how, calls_in, used_in_steps, used_in_part, used_in_argument, used_in_compared, used_in_joined, used_in_operand, used_in_pair, used_in_step};
 
 use py_ast::{
@@ -10,6 +11,26 @@ use py_ast::{
 use py_literals::place::Pos;
 use rv_names::{Memory, Name};
 use sqlite_items::Items;
+
+/// Which uses are listed.
+#[derive(Clone, Copy)]
+pub enum Wanted {
+    /// All.
+    All,
+    /// Calls alone.
+    Calls,
+}
+
+impl Wanted {
+    fn has(self, how: How) -> bool
+        ensures { result ≡ is_how_wanted self how }
+    {
+        match self {
+            Wanted::All => true,
+            Wanted::Calls => matches!(how, How::Called),
+        }
+    }
+}
 
 /// Whether the step is a call.
 pub fn is_call(step: &Step) -> bool
@@ -53,147 +74,165 @@ fn chained_how(how: How, steps: &[Step]) -> How
     }
 }
 
-fn name(name: &Name, at: Pos, how: How, found: &mut Items<Use>) -> Result<(), Memory>
-    ensures { OnOk result (found.new ≡ found.old ++ used name.now at how ∷ []) }
+fn name(
+    name: &Name,
+    at: Pos,
+    how: How,
+    wanted: Wanted,
+    found: &mut Items<Use>,
+) -> Result<(), Memory>
+    ensures { OnOk result (found.new ≡ found.old ++ filter (is_wanted wanted) (used name.now at how ∷ [])) }
 {
-    let name = name.copy()?;
-    found.push(Use { name, at, how })?;
+    if wanted.has(how) {
+        let name = name.copy()?;
+        found.push(Use { name, at, how })?;
+    }
     Ok(())
 }
 
 /// Adds the names that the expression uses, itself being used so. Only what nests in the expression recurses.
 #[cycle(uses)]
-pub fn expression(expr: &Expr, how: How, found: &mut Items<Use>) -> Result<(), Memory>
-    ensures { OnOk result (found.new ≡ found.old ++ used_in expr.now how) }
+pub fn expression(
+    expr: &Expr,
+    how: How,
+    wanted: Wanted,
+    found: &mut Items<Use>,
+) -> Result<(), Memory>
+    ensures { OnOk result (found.new ≡ found.old ++ filter (is_wanted wanted) (used_in expr.now how)) }
 {
     match &expr.form {
-        Form::Name(text) => name(text, expr.node, how, found),
+        Form::Name(text) => name(text, expr.node, how, wanted, found),
         Form::Number(_) | Form::Text(_) | Form::Constant(_) => Ok(()),
-        Form::Formatted(fields) => parts(fields.as_slice(), found),
-        Form::Tuple(items) | Form::List(items) => expressions(items.as_slice(), found),
-        Form::Dictionary(items) => pairs(items.as_slice(), found),
+        Form::Formatted(fields) => parts(fields.as_slice(), wanted, found),
+        Form::Tuple(items) | Form::List(items) => expressions(items.as_slice(), wanted, found),
+        Form::Dictionary(items) => pairs(items.as_slice(), wanted, found),
         Form::Conditional(value, condition, otherwise) => {
-            expression(value.get(), How::Other, found)?;
-            expression(condition.get(), How::Other, found)?;
-            expression(otherwise.get(), How::Other, found)
+            expression(value.get(), How::Other, wanted, found)?;
+            expression(condition.get(), How::Other, wanted, found)?;
+            expression(otherwise.get(), How::Other, wanted, found)
         }
         Form::Or(first, others) | Form::And(first, others) => {
-            expression(first.get(), How::Other, found)?;
-            joined(others.as_slice(), found)
+            expression(first.get(), How::Other, wanted, found)?;
+            joined(others.as_slice(), wanted, found)
         }
         Form::Not(operand) | Form::Unary(_, operand) => {
-            expression(operand.get(), How::Other, found)
+            expression(operand.get(), How::Other, wanted, found)
         }
         Form::Comparison(first, others) => {
-            expression(first.get(), How::Other, found)?;
-            compared(others.as_slice(), found)
+            expression(first.get(), How::Other, wanted, found)?;
+            compared(others.as_slice(), wanted, found)
         }
         Form::Binary(first, others) => {
-            expression(first.get(), How::Other, found)?;
-            operands(others.as_slice(), found)
+            expression(first.get(), How::Other, wanted, found)?;
+            operands(others.as_slice(), wanted, found)
         }
         Form::Power(base, exponent) => {
-            expression(base.get(), How::Other, found)?;
-            expression(exponent.get(), How::Other, found)
+            expression(base.get(), How::Other, wanted, found)?;
+            expression(exponent.get(), How::Other, wanted, found)
         }
         Form::Postfix(base, links) => {
-            expression(base.get(), chained_how(how, links.as_slice()), found)?;
-            steps(links.as_slice(), found)
+            expression(
+                base.get(),
+                chained_how(how, links.as_slice()),
+                wanted,
+                found,
+            )?;
+            steps(links.as_slice(), wanted, found)
         }
     }
 }
 
 #[cycle(uses)]
-fn expressions(exprs: &[Expr], found: &mut Items<Use>) -> Result<(), Memory>
-    ensures { OnOk result (found.new ≡ found.old ++ flat_map as_other (map used_in exprs.now)) }
+fn expressions(exprs: &[Expr], wanted: Wanted, found: &mut Items<Use>) -> Result<(), Memory>
+    ensures { OnOk result (found.new ≡ found.old ++ filter (is_wanted wanted) (flat_map as_other (map used_in exprs.now))) }
 {
     for expr in exprs {
-        expression(expr, How::Other, found)?;
+        expression(expr, How::Other, wanted, found)?;
     }
     Ok(())
 }
 
 #[cycle(uses)]
-fn parts(items: &[Part], found: &mut Items<Use>) -> Result<(), Memory>
-    ensures { OnOk result (found.new ≡ found.old ++ together (map used_in_part items.now)) }
+fn parts(items: &[Part], wanted: Wanted, found: &mut Items<Use>) -> Result<(), Memory>
+    ensures { OnOk result (found.new ≡ found.old ++ filter (is_wanted wanted) (together (map used_in_part items.now))) }
 {
     for item in items {
         if let Part::Field(expr) = item {
-            expression(expr, How::Other, found)?;
+            expression(expr, How::Other, wanted, found)?;
         }
     }
     Ok(())
 }
 
 #[cycle(uses)]
-fn pairs(items: &[Pair], found: &mut Items<Use>) -> Result<(), Memory>
-    ensures { OnOk result (found.new ≡ found.old ++ together (map used_in_pair items.now)) }
+fn pairs(items: &[Pair], wanted: Wanted, found: &mut Items<Use>) -> Result<(), Memory>
+    ensures { OnOk result (found.new ≡ found.old ++ filter (is_wanted wanted) (together (map used_in_pair items.now))) }
 {
     for item in items {
-        expression(&item.key, How::Other, found)?;
-        expression(&item.value, How::Other, found)?;
+        expression(&item.key, How::Other, wanted, found)?;
+        expression(&item.value, How::Other, wanted, found)?;
     }
     Ok(())
 }
 
 #[cycle(uses)]
-fn joined(items: &[Joined], found: &mut Items<Use>) -> Result<(), Memory>
-    ensures { OnOk result (found.new ≡ found.old ++ together (map used_in_joined items.now)) }
+fn joined(items: &[Joined], wanted: Wanted, found: &mut Items<Use>) -> Result<(), Memory>
+    ensures { OnOk result (found.new ≡ found.old ++ filter (is_wanted wanted) (together (map used_in_joined items.now))) }
 {
     for item in items {
-        expression(&item.value, How::Other, found)?;
+        expression(&item.value, How::Other, wanted, found)?;
     }
     Ok(())
 }
 
 #[cycle(uses)]
-fn compared(items: &[Compared], found: &mut Items<Use>) -> Result<(), Memory>
-    ensures { OnOk result (found.new ≡ found.old ++ together (map used_in_compared items.now)) }
+fn compared(items: &[Compared], wanted: Wanted, found: &mut Items<Use>) -> Result<(), Memory>
+    ensures { OnOk result (found.new ≡ found.old ++ filter (is_wanted wanted) (together (map used_in_compared items.now))) }
 {
     for item in items {
-        expression(&item.value, How::Other, found)?;
+        expression(&item.value, How::Other, wanted, found)?;
     }
     Ok(())
 }
 
 #[cycle(uses)]
-fn operands(items: &[Operand], found: &mut Items<Use>) -> Result<(), Memory>
-    ensures { OnOk result (found.new ≡ found.old ++ together (map used_in_operand items.now)) }
+fn operands(items: &[Operand], wanted: Wanted, found: &mut Items<Use>) -> Result<(), Memory>
+    ensures { OnOk result (found.new ≡ found.old ++ filter (is_wanted wanted) (together (map used_in_operand items.now))) }
 {
     for item in items {
-        expression(&item.value, How::Other, found)?;
+        expression(&item.value, How::Other, wanted, found)?;
     }
     Ok(())
 }
 
 #[cycle(uses)]
-fn arguments(items: &[Argument], found: &mut Items<Use>) -> Result<(), Memory>
-    ensures { OnOk result (found.new ≡ found.old ++ together (map used_in_argument items.now)) }
+fn arguments(items: &[Argument], wanted: Wanted, found: &mut Items<Use>) -> Result<(), Memory>
+    ensures { OnOk result (found.new ≡ found.old ++ filter (is_wanted wanted) (together (map used_in_argument items.now))) }
 {
     for item in items {
-        expression(&item.value, How::Other, found)?;
+        expression(&item.value, How::Other, wanted, found)?;
     }
     Ok(())
 }
 
 /// Adds the names that are used in the steps of a chain.
 #[cycle(uses)]
-pub fn steps(items: &[Step], found: &mut Items<Use>) -> Result<(), Memory>
-    ensures { OnOk result (found.new ≡ found.old ++ used_in_steps (map used_in_step items.now)) }
+pub fn steps(items: &[Step], wanted: Wanted, found: &mut Items<Use>) -> Result<(), Memory>
+    ensures { OnOk result (found.new ≡ found.old ++ filter (is_wanted wanted) (used_in_steps (map used_in_step items.now))) }
 {
     for item in items {
-        step(item, found)?;
+        step(item, wanted, found)?;
     }
     Ok(())
 }
 
 #[cycle(uses)]
-fn step(step: &Step, found: &mut Items<Use>) -> Result<(), Memory>
-    ensures { OnOk result (found.new ≡ found.old ++ (used_in_step step.now).1) }
+fn step(step: &Step, wanted: Wanted, found: &mut Items<Use>) -> Result<(), Memory>
+    ensures { OnOk result (found.new ≡ found.old ++ filter (is_wanted wanted) ((used_in_step step.now).1)) }
 {
     match &step.form {
         StepForm::Attribute(_) => Ok(()),
-        StepForm::Subscript(index) => expression(index.get(), How::Other, found),
-        StepForm::Call(given) => arguments(given.as_slice(), found),
+        StepForm::Subscript(index) => expression(index.get(), How::Other, wanted, found),
+        StepForm::Call(given) => arguments(given.as_slice(), wanted, found),
     }
 }

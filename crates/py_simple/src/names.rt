@@ -20,8 +20,8 @@ use py_expr::expr::expr_of;
 use py_expr::token::{Taken, mark, stands};
 use py_lexer::Token;
 use py_literals::place::Pos;
-use sqlite_items::Items;
-use std::alloc::Global;
+use sqlite_items::{Boxed, Items};
+use std::alloc::{AllocError, Global};
 
 /// A name, but `super`.
 pub fn plain_name_of(tokens: &[Token]) -> Taken<'_, NameAt>
@@ -235,14 +235,28 @@ fn all_parameters_of(alloc: Global, tokens: &[Token]) -> Taken<'_, Items<Paramet
     Ok((parameters, rest))
 }
 
+/// The expression, if there is one, in a place of its own.
+fn boxed(alloc: Global, expr: Option<Expr>) -> Result<Option<Boxed<Expr>>, AllocError>
+    ensures { IfOk result (λ kept. kept ≡ expr) }
+{
+    match expr {
+        None => Ok(None),
+        Some(expr) => Ok(Some(Boxed::new(alloc, expr)?)),
+    }
+}
+
 /// Parameters, and the annotation of what is returned if there is one.
 #[tactic(auto, unfolding(py_ast::specs::Statements::signature))]
-pub fn signature_of(alloc: Global, tokens: &[Token]) -> Taken<'_, (Items<Parameter>, Option<Expr>)>
+pub fn signature_of(
+    alloc: Global,
+    tokens: &[Token],
+) -> Taken<'_, (Items<Parameter>, Option<Boxed<Expr>>)>
     ensures read { Gives (λ x. Read (x.0.0, x.0.1) x.1.now) result ((signature (expr 100)).read tokens.now) }
     ensures shorter { IfOk result (λ x. length x.1.now < length tokens.now) }
 {
     let (parameters, rest) = all_parameters_of(alloc, tokens)?;
     let (returns, rest) = expr_behind(alloc, rest, ARROW)?;
+    let returns = boxed(alloc, returns)?;
     Ok(((parameters, returns), rest))
 }
 

@@ -20,6 +20,7 @@ use py_expr::expr::{expr_of, exprs_of};
 use py_expr::token::{Taken, mark, stands};
 use py_lexer::{Kind, Token};
 use py_literals::place::Pos;
+use sqlite_items::Boxed;
 use std::alloc::Global;
 
 /// How deep expressions may nest.
@@ -78,7 +79,7 @@ pub fn assigned_of(alloc: Global, tokens: &[Token]) -> Taken<'_, Tail>
 
 /// The value behind `=`, if there is one.
 #[tactic(auto, unfolding(py_ast::specs::Statements::optional, py_ast::specs::Grammar::mapped, py_ast::specs::Grammar::past))]
-fn value_of(alloc: Global, tokens: &[Token]) -> Taken<'_, Option<Expr>>
+fn value_of(alloc: Global, tokens: &[Token]) -> Taken<'_, Option<Boxed<Expr>>>
     ensures read { Gives (λ x. Read x.0 x.1.now) result ((optional (81 ∷ []) (past 81 (exprs (expr 100)))).read tokens.now) }
     ensures no_longer { IfOk result (λ x. length x.1.now ≤ length tokens.now) }
 {
@@ -87,7 +88,7 @@ fn value_of(alloc: Global, tokens: &[Token]) -> Taken<'_, Option<Expr>>
     }
     let (_, rest) = mark(tokens, EQUAL)?;
     let (value, rest) = exprs_of(alloc, rest, NESTINGS)?;
-    Ok((Some(value), rest))
+    Ok((Some(Boxed::new(alloc, value)?), rest))
 }
 
 /// `:`, an annotation, and a value if there is one.
@@ -98,6 +99,7 @@ pub fn annotated_of(alloc: Global, tokens: &[Token]) -> Taken<'_, Tail>
 {
     let (at, rest) = mark(tokens, COLON)?;
     let (annotation, rest) = expr_of(alloc, rest, NESTINGS)?;
+    let annotation = Boxed::new(alloc, annotation)?;
     let (value, rest) = value_of(alloc, rest)?;
     Ok((Tail::Annotated(at, annotation, value), rest))
 }
@@ -110,7 +112,10 @@ fn augmented_of(alloc: Global, tokens: &[Token]) -> Taken<'_, Tail>
 {
     let ((operator, at), rest) = augment_token(tokens)?;
     let (value, rest) = exprs_of(alloc, rest, NESTINGS)?;
-    Ok((Tail::Augmented(operator, at, value), rest))
+    Ok((
+        Tail::Augmented(operator, at, Boxed::new(alloc, value)?),
+        rest,
+    ))
 }
 
 /// What follows the expressions that a statement begins with, by what they are as a target.
@@ -235,7 +240,7 @@ pub fn word_token(tokens: &[Token], loops: bool) -> Taken<'_, Stmt>
 
 /// What an assertion says where it fails, if it says something.
 #[tactic(auto, unfolding(py_ast::specs::Statements::optional, py_ast::specs::Grammar::mapped, py_ast::specs::Grammar::past))]
-fn message_of(alloc: Global, tokens: &[Token]) -> Taken<'_, Option<Expr>>
+fn message_of(alloc: Global, tokens: &[Token]) -> Taken<'_, Option<Boxed<Expr>>>
     ensures read { Gives (λ x. Read x.0 x.1.now) result ((optional (77 ∷ []) (past 77 (expr 100))).read tokens.now) }
     ensures no_longer { IfOk result (λ x. length x.1.now ≤ length tokens.now) }
 {
@@ -244,7 +249,7 @@ fn message_of(alloc: Global, tokens: &[Token]) -> Taken<'_, Option<Expr>>
     }
     let (_, rest) = mark(tokens, COMMA)?;
     let (message, rest) = expr_of(alloc, rest, NESTINGS)?;
-    Ok((Some(message), rest))
+    Ok((Some(Boxed::new(alloc, message)?), rest))
 }
 
 #[tactic(auto, unfolding(py_ast::specs::Statements::assert_stmt))]
