@@ -10,7 +10,7 @@ use py_ast::{
 };
 use py_literals::place::Pos;
 use rv_names::{Memory, Name, QName};
-use sqlite_items::Items;
+use sqlite_items::{Boxed, Items};
 use std::alloc::Global;
 
 /// Where a statement stands: its number, and whether a loop stands round it.
@@ -163,18 +163,18 @@ fn assigned(
     }
 }
 
-fn annotated_kind(value: &Option<Expr>) -> BindingKind
+fn annotated_kind(value: &Option<Boxed<Expr>>) -> BindingKind
     ensures { result ≡ annotated_kind value.now }
 {
     match value {
         None => BindingKind::Annotation,
-        Some(value) => BindingKind::Value(display(value)),
+        Some(value) => BindingKind::Value(display(value.get())),
     }
 }
 
 fn annotated(
     target: &Expr,
-    value: &Option<Expr>,
+    value: &Option<Boxed<Expr>>,
     place: Place,
     found: &mut Items<Binding>,
 ) -> Result<(), Memory>

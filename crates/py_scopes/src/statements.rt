@@ -11,7 +11,7 @@ ghost use Rattle.py_scopes.specs.Listed.{is_wanted};
 use crate::uses::{Wanted, base_how, expression, steps};
 use py_ast::{Branch, Expr, Form, Function, How, Parameter, Step, StepForm, Stmt, StmtForm, Use};
 use rv_names::Memory;
-use sqlite_items::Items;
+use sqlite_items::{Boxed, Items};
 
 fn target_how(steps: &[Step]) -> How
     ensures { result ≡ target_how (calls_in (map used_in_step steps.now)) }
@@ -119,6 +119,19 @@ fn if_any(expr: &Option<Expr>, wanted: Wanted, found: &mut Items<Use>) -> Result
     }
 }
 
+fn if_boxed(
+    expr: &Option<Boxed<Expr>>,
+    wanted: Wanted,
+    found: &mut Items<Use>,
+) -> Result<(), Memory>
+    ensures { OnOk result (found.new ≡ found.old ++ filter (is_wanted wanted) (used_if_any expr.now)) }
+{
+    match expr {
+        None => Ok(()),
+        Some(expr) => expression(expr.get(), How::Other, wanted, found),
+    }
+}
+
 fn returned(expr: &Option<Expr>, wanted: Wanted, found: &mut Items<Use>) -> Result<(), Memory>
     ensures { OnOk result (found.new ≡ found.old ++ filter (is_wanted wanted) (used_if_returned expr.now)) }
 {
@@ -143,10 +156,10 @@ fn signature(function: &Function, wanted: Wanted, found: &mut Items<Use>) -> Res
     ensures { OnOk result (found.new ≡ found.old ++ filter (is_wanted wanted) (flat_map used_in_parameter (out-Function function.now).parameters ++ used_if_any (out-Function function.now).returns)) }
 {
     parameters(function.parameters.as_slice(), wanted, found)?;
-    if_any(&function.returns, wanted, found)
+    if_boxed(&function.returns, wanted, found)
 }
 
-/// Adds the names that the statement uses. Only blocks in it recurse.
+/// Adds the wanted uses of names in the statement. Only blocks in it recurse.
 #[cycle(statements)]
 fn statement(stmt: &Stmt, wanted: Wanted, found: &mut Items<Use>) -> Result<(), Memory>
     ensures { OnOk result (found.new ≡ found.old ++ filter (is_wanted wanted) (used_in_stmt stmt.now)) }
@@ -159,16 +172,16 @@ fn statement(stmt: &Stmt, wanted: Wanted, found: &mut Items<Use>) -> Result<(), 
         }
         StmtForm::Annotate(place, annotation, value) => {
             target(place, wanted, found)?;
-            expression(annotation, How::Other, wanted, found)?;
-            if_any(value, wanted, found)
+            expression(annotation.get(), How::Other, wanted, found)?;
+            if_boxed(value, wanted, found)
         }
         StmtForm::Augment(place, _, value) => {
             target(place, wanted, found)?;
-            expression(value, How::Other, wanted, found)
+            expression(value.get(), How::Other, wanted, found)
         }
         StmtForm::Assert(condition, message) => {
             expression(condition, How::Other, wanted, found)?;
-            if_any(message, wanted, found)
+            if_boxed(message, wanted, found)
         }
         StmtForm::Pass | StmtForm::Break | StmtForm::Continue => Ok(()),
         StmtForm::Import(_) | StmtForm::ImportFrom(_, _) => Ok(()),
@@ -191,7 +204,7 @@ fn statement(stmt: &Stmt, wanted: Wanted, found: &mut Items<Use>) -> Result<(), 
     }
 }
 
-/// Adds the names that the statements use, those in their blocks too: of functions what stands in the scope round them, of
+/// Adds the wanted uses of names in the statements, those in their blocks too: of functions what stands in the scope round them, of
 /// classes all. Linear in the trees.
 #[cycle(statements)]
 pub fn block(stmts: &[Stmt], wanted: Wanted, found: &mut Items<Use>) -> Result<(), Memory>

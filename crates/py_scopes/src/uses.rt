@@ -90,7 +90,7 @@ fn name(
     Ok(())
 }
 
-/// Adds the names that the expression uses, itself being used so. Only what nests in the expression recurses.
+/// Adds the wanted uses of names in the expression, itself being used so. Only what nests in the expression recurses.
 #[cycle(uses)]
 pub fn expression(
     expr: &Expr,
@@ -215,7 +215,7 @@ fn arguments(items: &[Argument], wanted: Wanted, found: &mut Items<Use>) -> Resu
     Ok(())
 }
 
-/// Adds the names that are used in the steps of a chain.
+/// Adds the wanted uses of names in the steps of a chain.
 #[cycle(uses)]
 pub fn steps(items: &[Step], wanted: Wanted, found: &mut Items<Use>) -> Result<(), Memory>
     ensures { OnOk result (found.new ≡ found.old ++ filter (is_wanted wanted) (used_in_steps (map used_in_step items.now))) }
