@@ -6,7 +6,7 @@ ghost use Rattle.cut_form.specs.Answers.{Gives};
 ghost use Rattle.cut_form.specs.Nests.{argument_nest, callee_names, is_small, link_of, member_of, members_in, nest_of, nest_within, shape_of};
 
 use crate::refusal::Refusal;
-use py_ast::{Argument, Expr, Form, Step, StepForm};
+use py_ast::{Argument, Expr, Form, Step, StepForm, WholeNumber};
 use py_literals::place::Pos;
 use rv_names::{Name, QName};
 use sqlite_items::Items;
@@ -21,10 +21,10 @@ pub struct Call {
     pub at: Pos,
 }
 
-fn is_small(number: i128) -> bool
-    ensures { result ≡ is_small number }
+fn is_small(number: &WholeNumber) -> bool
+    ensures { result ≡ is_small number.now }
 {
-    matches!(number, 0..=999_999_999)
+    matches!(number.get(), 0..=999_999_999)
 }
 
 /// The name that an expression is.
@@ -97,7 +97,7 @@ pub fn nest(alloc: Global, expr: &Expr, calls: &mut Items<Call>) -> Result<(), R
 {
     match &expr.form {
         Form::Number(number) => {
-            if is_small(number.get()) {
+            if is_small(number) {
                 Ok(())
             } else {
                 Err(Refusal::NotCut)
