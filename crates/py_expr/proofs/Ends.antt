@@ -18,7 +18,7 @@ use Rattle.py_ast.specs.Trees.{is_callee, postfix_of, power_of}
 use Rattle.py_ast.specs.Grammar.{Inversion, Factor, shaped, nested, Whole, expr, binary, comparison_first, comparison, after_argument, step_first, step_next, step, chain, atom, primary, exponent, power, factor_over, inversion_over, comma_first, expr_first, comma_item, comma_items, goes_past, both, mapped, items, exprs}
 use Rattle.py_ast.proofs.TokenLaws.{leaf-kind}
 use Rattle.py_expr.proofs.Nestings.{inversion_is, factor_is}
-use Rattle.py_expr.proofs.Alone.{comparison_alone, expr_alone}
+use Rattle.py_expr.proofs.Alone.{binary_fails, comparison_alone, comparison_fails, disjunction_fails, expr_alone, expr_fails}
 
 -- the second phrase goes on where the first ends
 both-read : {A B C : Type 0} (g : Phrase Token A) (h : A → Phrase Token B) (f : A → B → C) (ts : List Token) (v : A) (y : List Token) (w : B) (z : List Token) → g.read ts ≡ Read v y → (h v).read y ≡ Read w z → (sequence g h f).read ts ≡ Read (f v w) z
@@ -113,6 +113,41 @@ inversion-alone : (room : ℕ) (ts : List Token) (v : Expr) (y : List Token) →
 unfolding inversion_over
 inversion-alone room ts v y h k = inversion_is room ts ∙ rw k h
 
+-- an expression that begins with a primary: nothing goes on behind that, or a looser level does, or one is stuck
+pub factor_alone : (room : ℕ) (ts : List Token) (v : Expr) (y : List Token) → starts class unary_codes ts ≡ false → (power room (nested room Whole) (nested room Factor)).read ts ≡ Read v y → (shaped Factor room).read ts ≡ Read v y
+factor_alone room ts v y k h = factor-alone room ts v y h k
+
+pub inversion_alone : (room : ℕ) (ts : List Token) (v : Expr) (y : List Token) → starts class (41 ∷ []) ts ≡ false → (comparison (binary 6 (shaped Factor room))).read ts ≡ Read v y → (shaped Inversion room).read ts ≡ Read v y
+inversion_alone room ts v y k h = inversion-alone room ts v y h k
+
+pub expr_comparison : (room : ℕ) (ts : List Token) (v : Expr) (y : List Token) → starts class (41 ∷ []) ts ≡ false → (comparison (binary 6 (shaped Factor room))).read ts ≡ Read v y → starts class (18 ∷ []) y ≡ false → starts class (42 ∷ []) y ≡ false → starts class (35 ∷ []) y ≡ false → (expr room).read ts ≡ Read v y
+expr_comparison room ts v y k h a o c = expr_alone room ts v y (inversion-alone room ts v y h k) a o c
+
+pub expr_primary : (room : ℕ) (ts : List Token) (v : Expr) (y : List Token) → starts class unary_codes ts ≡ false → starts class (41 ∷ []) ts ≡ false → (primary room (nested room Whole)).read ts ≡ Read v y → starts class (53 ∷ []) y ≡ false → ((level : ℕ) → starts class (level_codes level) y ≡ false) → starts class comparison_first y ≡ false → starts class (18 ∷ []) y ≡ false → starts class (42 ∷ []) y ≡ false → starts class (35 ∷ []) y ≡ false → (expr room).read ts ≡ Read v y
+expr_primary room ts v y u n h p b d a o c =
+    let w : (power room (nested room Whole) (nested room Factor)).read ts ≡ Read v y = power_alone room (nested room Whole) (nested room Factor) ts v y h p in
+    let f : (shaped Factor room).read ts ≡ Read v y = factor-alone room ts v y w u in
+    expr_comparison room ts v y n (comparison_alone (shaped Factor room) ts v y f b d) a o c
+
+factor-fails : (room : ℕ) (ts : List Token) (s : Stop Token) → starts class unary_codes ts ≡ false → Fails s ((power room (nested room Whole) (nested room Factor)).read ts) → Fails s ((shaped Factor room).read ts)
+unfolding factor_over
+factor-fails room ts s k h = rw (factor_is room ts) (rw k h)
+
+inversion-fails : (room : ℕ) (ts : List Token) (s : Stop Token) → starts class (41 ∷ []) ts ≡ false → Fails s ((comparison (binary 6 (shaped Factor room))).read ts) → Fails s ((shaped Inversion room).read ts)
+unfolding inversion_over
+inversion-fails room ts s k h = rw (inversion_is room ts) (rw k h)
+
+pub comparison_stops : (room : ℕ) (ts : List Token) (s : Stop Token) → starts class (41 ∷ []) ts ≡ false → Fails s ((comparison (binary 6 (shaped Factor room))).read ts) → Fails s ((expr room).read ts)
+comparison_stops room ts s n h = expr_fails room ts s (disjunction_fails (shaped Inversion room) ts s (inversion-fails room ts s n h))
+
+pub power_stops : (room : ℕ) (ts : List Token) (s : Stop Token) → starts class unary_codes ts ≡ false → starts class (41 ∷ []) ts ≡ false → Fails s ((power room (nested room Whole) (nested room Factor)).read ts) → Fails s ((expr room).read ts)
+power_stops room ts s u n h =
+    let f : Fails s ((shaped Factor room).read ts) = factor-fails room ts s u h in
+    comparison_stops room ts s n (comparison_fails (binary 6 (shaped Factor room)) ts s (binary_fails 6 (shaped Factor room) ts s f))
+
+pub primary_stops : (room : ℕ) (ts : List Token) (s : Stop Token) → starts class unary_codes ts ≡ false → starts class (41 ∷ []) ts ≡ false → Fails s ((primary room (nested room Whole)).read ts) → Fails s ((expr room).read ts)
+primary_stops room ts s u n h = power_stops room ts s u n (power_fails room (nested room Whole) (nested room Factor) ts s h)
+
 -- what no token behind it goes on with
 pub record Ends (y : List Token) : Type 0 where
   pub step : starts class (step_first true) y ≡ false
@@ -126,11 +161,7 @@ pub record Ends (y : List Token) : Type 0 where
 leaf-read : (room : ℕ) (ts : List Token) (v : Expr) (y : List Token) → starts class leaf_codes ts ≡ true → (token leaf_of).read ts ≡ Read v y → Ends y → (expr room).read ts ≡ Read v y
 leaf-read room ts v y h r e =
     let p : (primary room (nested room Whole)).read ts ≡ Read v y = primary_alone room (nested room Whole) ts v y (atom-leaf room (nested room Whole) ts h ∙ r) e.step in
-    let w : (power room (nested room Whole) (nested room Factor)).read ts ≡ Read v y = power_alone room (nested room Whole) (nested room Factor) ts v y p e.exponent in
-    let f : (shaped Factor room).read ts ≡ Read v y = factor-alone room ts v y w (leaf-only unary_codes ts refl h) in
-    let c : (comparison (binary 6 (shaped Factor room))).read ts ≡ Read v y = comparison_alone (shaped Factor room) ts v y f e.binary e.comparison in
-    let i : (shaped Inversion room).read ts ≡ Read v y = inversion-alone room ts v y c (leaf-only (41 ∷ []) ts refl h) in
-    expr_alone room ts v y i e.conjunction e.disjunction e.choice
+    expr_primary room ts v y (leaf-only unary_codes ts refl h) (leaf-only (41 ∷ []) ts refl h) p e.exponent e.binary e.comparison e.conjunction e.disjunction e.choice
 
 pub expr_leaf : (room : ℕ) (ts : List Token) → starts class leaf_codes ts ≡ true → Ends (drop 1 ts) → (expr room).read ts ≡ (token leaf_of).read ts
 expr_leaf room [] h e = absurd cc

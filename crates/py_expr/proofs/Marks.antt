@@ -64,6 +64,12 @@ level_is (suc (suc (suc (suc (suc l))))) t = mark_has (level_codes 5) t refl ref
 pub unary_is : (t : Token) → has unary_codes (class t) ≡ has unary_codes (code t.kind)
 unary_is t = mark_has unary_codes t refl refl refl refl refl refl
 
+pub not_is : (t : Token) → has (41 ∷ []) (class t) ≡ has (41 ∷ []) (code t.kind)
+not_is t = mark_has (41 ∷ []) t refl refl refl refl refl refl
+
+pub power_is : (t : Token) → has (53 ∷ []) (class t) ≡ has (53 ∷ []) (code t.kind)
+power_is t = mark_has (53 ∷ []) t refl refl refl refl refl refl
+
 pub comparison_is : (t : Token) → has comparison_first (class t) ≡ has comparison_first (code t.kind)
 comparison_is t = mark_has comparison_first t refl refl refl refl refl refl
 

@@ -430,9 +430,8 @@ pub fn begins_logic(class: u8) -> bool
     class == AND || class == OR || class == IF
 }
 
-/// Whether the class is one with which a primary, a power, or operands go on behind their first atom.
-pub fn goes_on(class: u8) -> bool
-    ensures step { result ≡ false → has (step_first true) class ≡ false }
+/// Whether the class is one with which a power, operands, a comparison or a conditional goes on behind its first primary.
+pub fn goes_wider(class: u8) -> bool
     ensures exponent { result ≡ false → has (53 ∷ []) class ≡ false }
     ensures binary { (level : ℕ) → result ≡ false → has (level_codes level) class ≡ false }
     ensures comparison { result ≡ false → has comparison_first class ≡ false }
@@ -440,8 +439,5 @@ pub fn goes_on(class: u8) -> bool
     ensures disjunction { result ≡ false → has (42 ∷ []) class ≡ false }
     ensures choice { result ≡ false → has (35 ∷ []) class ≡ false }
 {
-    begins_step(true, class)
-        || class == DOUBLE_STAR
-        || begins_operator(class)
-        || begins_logic(class)
+    class == DOUBLE_STAR || begins_operator(class) || begins_logic(class)
 }

@@ -7,11 +7,13 @@
 //! stand, the functions whose names end in `from` go on behind the operand that was read: their contracts speak of whatever
 //! tokens that operand is read from.
 
-ghost use Rattle.std.specs.Prelude.{◌≡◌, ◌+◌, ◌<◌, ◌≤◌, List, IfOk, length};
+ghost use Rattle.std.specs.Prelude.{◌≡◌, ◌+◌, ◌<◌, ◌≤◌, ◌∷◌, [], false, List, IfOk, length};
+ghost use Rattle.phrases.specs.Sets.{starts};
 ghost use Rattle.phrases.specs.Reading.{Read};
 ghost use Rattle.phrases.specs.Nesting.{never};
 ghost use Rattle.phrases.specs.Loops.{Gives};
 ghost use Rattle.py_ast.specs.Kinds.{class};
+ghost use Rattle.py_ast.specs.Tokens.{unary_codes};
 ghost use Rattle.py_ast.specs.Grammar.{expr_first, primary, exponent, power, binary, comparison, conjunction, disjunction, choice, exprs, Whole, Inversion, Factor, nested, shaped, expr};
 
 use crate::build::{as_conditional, as_power};
@@ -19,7 +21,9 @@ use crate::class::{DOUBLE_STAR, ELSE, IF, NOT, begins_expr, class_of};
 use crate::inner::exprs_by;
 use crate::logic::disjunction_by;
 use crate::operator::comparison_by;
-use crate::parts::{stands_alone, stands_logic, stands_operator, stands_unary};
+use crate::parts::{
+    stands_alone, stands_logic, stands_operator, stands_prefix, stands_unary, stands_wider,
+};
 use crate::primary::primary_by;
 use crate::token::{Taken, leaf_here, make_leaf, mark, open, open_unary, stands};
 use phrases::{Fault, Stop};
@@ -45,9 +49,42 @@ pub fn expr_of(alloc: Global, tokens: &[Token], room: u8) -> Taken<'_, Expr>
 }
 
 /// An expression, whatever stands behind its first token.
+///
+/// Where it begins with a primary, one look behind that tells for all levels whether it goes on.
+#[cycle(expr)]
+#[tactic(auto, using(crate::proofs::Ends::expr_primary))]
+fn whole_of(alloc: Global, tokens: &[Token], room: u8) -> Taken<'_, Expr>
+    ensures read { Gives (λ x. Read x.0 x.1.now) result ((expr room).read tokens.now) }
+    ensures shorter { IfOk result (λ x. length x.1.now < length tokens.now) }
+{
+    if stands_prefix(tokens) {
+        return prefixed_of(alloc, tokens, room);
+    }
+    let (first, rest) = primary_of(alloc, tokens, room)?;
+    if !stands_wider(rest) {
+        return Ok((first, rest));
+    }
+    wider_from(alloc, first, rest, room)
+}
+
+/// An expression whose first primary was read, where the tokens begin behind that.
+#[cycle(expr)]
+fn wider_from(alloc: Global, base: Expr, tokens: &[Token], room: u8) -> Taken<'_, Expr>
+    ensures read { (ts : List Token) → starts class unary_codes ts ≡ false → starts class (41 ∷ []) ts ≡ false → (primary room (nested room Whole)).read ts ≡ Read base tokens.now → Gives (λ x. Read x.0 x.1.now) result ((expr room).read ts) }
+    ensures no_longer { IfOk result (λ x. length x.1.now ≤ length tokens.now) }
+{
+    let (first, rest) = power_from(alloc, base, tokens, room)?;
+    let (value, rest) = comparison_from(alloc, first, rest, room)?;
+    if !stands_logic(rest) {
+        return Ok((value, rest));
+    }
+    expr_from(alloc, value, rest, room)
+}
+
+/// An expression, which may begin with `not` or a unary operator.
 #[cycle(expr)]
 #[tactic(auto, using(crate::proofs::Alone::expr_alone))]
-fn whole_of(alloc: Global, tokens: &[Token], room: u8) -> Taken<'_, Expr>
+fn prefixed_of(alloc: Global, tokens: &[Token], room: u8) -> Taken<'_, Expr>
     ensures read { Gives (λ x. Read x.0 x.1.now) result ((expr room).read tokens.now) }
     ensures shorter { IfOk result (λ x. length x.1.now < length tokens.now) }
 {

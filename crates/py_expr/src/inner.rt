@@ -13,9 +13,9 @@ ghost use Rattle.py_ast.specs.Grammar.{mapped, ended, second, expr_first, comma_
 ghost use Rattle.py_expr.specs.Readers.{ReadsSome};
 
 use crate::build::as_tuple;
-use crate::class::{COMMA, class_of};
+use crate::class::COMMA;
 use crate::parts::stands_expr;
-use crate::token::{Taken, mark, stands};
+use crate::token::{Taken, is_of, mark, stands};
 use phrases::series;
 use py_ast::Expr;
 use py_lexer::Token;
@@ -111,7 +111,7 @@ where
         (),
         |_state: (), token: &Token|
             ensures { result ≡ has (77 ∷ []) (class token.now) }
-        { class_of(token) == COMMA },
+        { is_of(token, COMMA) },
         |_state: (), rest: &[Token]|
             requires can_call { F.IsAlwaysCallable inner.now }
             requires reads { ReadsSome (λ ts r. F.post inner.now ts r) (nested room Whole).read }

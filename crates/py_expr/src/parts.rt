@@ -10,7 +10,7 @@ ghost use Rattle.py_ast.specs.Grammar.{expr_first, step_first, argument_first, c
 
 use crate::class::{
     DOT, IN, IS, NOT, begins_argument, begins_expr, begins_leaf, begins_logic, begins_operand,
-    begins_operator, begins_step, begins_unary, class_of, code_of, goes_on,
+    begins_operator, begins_step, begins_unary, class_of, code_of, goes_wider,
 };
 use crate::token::{Taken, comparator_token, mark, name_token, stands};
 use py_ast::{Comparator, Step, StepForm};
@@ -34,6 +34,21 @@ pub fn stands_unary(tokens: &[Token]) -> bool
 {
     match tokens {
         [first, ..] => begins_unary(code_of(first.kind)),
+        [] => false,
+    }
+}
+
+/// Whether `not` or a unary operator stands here, with which no primary begins.
+#[tactic(auto, using(crate::proofs::Marks::unary_is, crate::proofs::Marks::not_is))]
+pub fn stands_prefix(tokens: &[Token]) -> bool
+    ensures unary { result ≡ false → starts class unary_codes tokens.now ≡ false }
+    ensures negation { result ≡ false → starts class (41 ∷ []) tokens.now ≡ false }
+{
+    match tokens {
+        [first, ..] => {
+            let code = code_of(first.kind);
+            code == NOT || begins_unary(code)
+        }
         [] => false,
     }
 }
@@ -75,6 +90,22 @@ pub fn stands_logic(tokens: &[Token]) -> bool
     }
 }
 
+/// Whether a power, operands, a comparison or a conditional goes on here behind a primary.
+#[tactic(auto, using(crate::proofs::Marks::power_is, crate::proofs::Marks::level_is, crate::proofs::Marks::comparison_is, crate::proofs::Marks::and_is, crate::proofs::Marks::or_is, crate::proofs::Marks::if_is))]
+pub fn stands_wider(tokens: &[Token]) -> bool
+    ensures exponent { result ≡ false → starts class (53 ∷ []) tokens.now ≡ false }
+    ensures binary { (level : ℕ) → result ≡ false → starts class (level_codes level) tokens.now ≡ false }
+    ensures comparison { result ≡ false → starts class comparison_first tokens.now ≡ false }
+    ensures conjunction { result ≡ false → starts class (18 ∷ []) tokens.now ≡ false }
+    ensures disjunction { result ≡ false → starts class (42 ∷ []) tokens.now ≡ false }
+    ensures choice { result ≡ false → starts class (35 ∷ []) tokens.now ≡ false }
+{
+    match tokens {
+        [first, ..] => goes_wider(code_of(first.kind)),
+        [] => false,
+    }
+}
+
 /// Whether a step stands here, which may be a call where `callable` says so.
 #[tactic(auto, using(crate::proofs::Marks::step_is))]
 pub fn stands_step(tokens: &[Token], callable: bool) -> bool
@@ -84,6 +115,19 @@ pub fn stands_step(tokens: &[Token], callable: bool) -> bool
         [first, ..] => begins_step(callable, code_of(first.kind)),
         [] => false,
     }
+}
+
+/// Whether a primary, a power, operands, a comparison or a conditional goes on here behind an atom.
+fn stands_on(tokens: &[Token]) -> bool
+    ensures step { result ≡ false → starts class (step_first true) tokens.now ≡ false }
+    ensures exponent { result ≡ false → starts class (53 ∷ []) tokens.now ≡ false }
+    ensures binary { (level : ℕ) → result ≡ false → starts class (level_codes level) tokens.now ≡ false }
+    ensures comparison { result ≡ false → starts class comparison_first tokens.now ≡ false }
+    ensures conjunction { result ≡ false → starts class (18 ∷ []) tokens.now ≡ false }
+    ensures disjunction { result ≡ false → starts class (42 ∷ []) tokens.now ≡ false }
+    ensures choice { result ≡ false → starts class (35 ∷ []) tokens.now ≡ false }
+{
+    stands_step(tokens, true) || stands_wider(tokens)
 }
 
 /// Whether an atom of one token stands here, and no token behind it goes on with it.
@@ -98,8 +142,8 @@ pub fn stands_alone(tokens: &[Token]) -> bool
     ensures choice { result ≡ true → starts class (35 ∷ []) (drop 1 tokens.now) ≡ false }
 {
     match tokens {
-        [first, second, ..] => !goes_on(class_of(second)) && begins_leaf(class_of(first)),
-        _ => false,
+        [first, rest @ ..] => !stands_on(rest) && begins_leaf(class_of(first)),
+        [] => false,
     }
 }
 

@@ -14,11 +14,11 @@ use crate::atom::atom_by;
 use crate::build::{as_argument, as_items, as_postfix};
 use crate::class::{
     COMMA, DOT, EQUAL, LEFT_BRACKET, LEFT_PAREN, RIGHT_BRACKET, RIGHT_PAREN, SUPER, begins_step,
-    class_of,
+    code_of,
 };
 use crate::inner::{exprs_by, nested_by};
 use crate::parts::{attribute_of, stands_argument, stands_step};
-use crate::token::{Taken, mark, name_token, open, stands, super_token};
+use crate::token::{Taken, is_of, mark, name_token, open, stands, super_token};
 use phrases::{Stop, series};
 use py_ast::{Argument, Expr, NameAt, Step, StepForm};
 use py_lexer::Token;
@@ -65,6 +65,7 @@ where
     Ok((as_postfix(alloc, base, steps)?, rest))
 }
 
+#[tactic(auto, using(crate::proofs::Marks::step_is))]
 fn chain_by<'a, F>(
     alloc: Global,
     tokens: &'a [Token],
@@ -85,7 +86,7 @@ where
         callable,
         |callable: bool, token: &Token|
             ensures { result ≡ has (step_first callable) (class token.now) }
-        { begins_step(callable, class_of(token)) },
+        { begins_step(callable, code_of(token.kind)) },
         |callable: bool, rest: &[Token]|
             requires can_call { F.IsAlwaysCallable inner.now }
             requires reads { ReadsSome (λ ts r. F.post inner.now ts r) (nested room Whole).read }
@@ -217,7 +218,7 @@ where
         keyword,
         |_keyword: bool, token: &Token|
             ensures { result ≡ has (77 ∷ []) (class token.now) }
-        { class_of(token) == COMMA },
+        { is_of(token, COMMA) },
         |keyword: bool, rest: &[Token]|
             requires can_call { F.IsAlwaysCallable inner.now }
             requires reads { ReadsSome (λ ts r. F.post inner.now ts r) (nested room Whole).read }

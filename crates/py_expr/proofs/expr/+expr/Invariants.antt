@@ -2,10 +2,16 @@ use Rattle.std.proofs.Common.{◌+◌, ◌*◌}
 use Rattle.py_expr.proofs.expr.+expr.Given as goal
 
 abbrev pub decreases-expr_of : goal.decreases-expr_of
-decreases-expr_of l = 32 * l.room + 16
+decreases-expr_of l = 32 * l.room + 17
 
 abbrev pub decreases-whole_of : goal.decreases-whole_of
-decreases-whole_of l = 32 * l.room + 15
+decreases-whole_of l = 32 * l.room + 16
+
+abbrev pub decreases-wider_from : goal.decreases-wider_from
+decreases-wider_from l = 32 * l.room + 15
+
+abbrev pub decreases-prefixed_of : goal.decreases-prefixed_of
+decreases-prefixed_of l = 32 * l.room + 15
 
 abbrev pub decreases-expr_from : goal.decreases-expr_from
 decreases-expr_from l = 32 * l.room + 14
