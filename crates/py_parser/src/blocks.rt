@@ -13,7 +13,7 @@ ghost use Rattle.py_ast.specs.Statements.{block, branch, else_block, if_stmt, wh
 ghost use Rattle.py_ast.specs.Files.{suites, compound, single};
 ghost use Rattle.py_parser.specs.Suites.{ReadsSuites};
 
-use crate::lines::with_room;
+use crate::lines::one_more;
 use phrases::many;
 use py_ast::{Branch, NameAt, Stmt, StmtForm, Suite};
 use py_expr::class::class_of;
@@ -278,7 +278,5 @@ where
     ensures shorter { IfOk result (λ x. length x.1.now < length tokens.now) }
 {
     let (statement, rest) = compound_of(alloc, tokens, room, returns, loops, suite)?;
-    let mut all = with_room(before, rest)?;
-    all.push_reserved(statement);
-    Ok((all, rest))
+    Ok((one_more(before, statement, rest)?, rest))
 }

@@ -11,7 +11,7 @@ ghost use Rattle.py_ast.specs.declared.statement.Suite.TheVariants.{Body, Member
 ghost use Rattle.py_parser.specs.Suites.{ReadsSuites};
 
 use crate::blocks::block_of;
-use crate::lines::with_room;
+use crate::lines::one_more;
 use py_ast::{Class, Decorator, Function, Stmt, StmtForm, Suite};
 use py_expr::token::{Taken, mark, stands};
 use py_lexer::Token;
@@ -121,9 +121,7 @@ where
     ensures shorter { IfOk result (λ x. length x.1.now < length tokens.now) }
 {
     let (statement, rest) = decorated_function_of(alloc, tokens, room, suite)?;
-    let mut all = with_room(before, rest)?;
-    all.push_reserved(statement);
-    Ok((all, rest))
+    Ok((one_more(before, statement, rest)?, rest))
 }
 
 /// A function or a class with these decorators.
@@ -183,7 +181,5 @@ where
     ensures shorter { IfOk result (λ x. length x.1.now < length tokens.now) }
 {
     let (statement, rest) = decorated_of(alloc, tokens, room, suite)?;
-    let mut all = with_room(before, rest)?;
-    all.push_reserved(statement);
-    Ok((all, rest))
+    Ok((one_more(before, statement, rest)?, rest))
 }

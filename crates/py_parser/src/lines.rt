@@ -1,6 +1,6 @@
 //! Lines of simple statements (Language Reference, chapter 7): a function for each production.
 
-ghost use Rattle.std.specs.Prelude.{◌≡◌, ◌<◌, ◌≤◌, ◌∷◌, [], ℕ, List, Option, Some, None, IfOk, length, vec_len, vec_capacity};
+ghost use Rattle.std.specs.Prelude.{◌≡◌, ◌<◌, ◌≤◌, ◌∷◌, ◌++◌, [], ℕ, List, Option, Some, None, IfOk, length, vec_len, vec_capacity};
 ghost use Rattle.phrases.specs.Sets.{has, starts};
 ghost use Rattle.phrases.specs.Reading.{Read};
 ghost use Rattle.phrases.specs.Phrases.{token, sequence, either};
@@ -190,8 +190,8 @@ fn all_further_of(
     )
 }
 
-/// The statements, with room for one more, which was read up to `rest`: where a block ends there, for no other.
-fn with_more_room(before: Vec<Stmt>, rest: &[Token]) -> Result<Vec<Stmt>, AllocError>
+/// The items, with room for one more, which was read up to `rest`: where a block ends there, for no other.
+fn with_more_room<A: Drop>(before: Vec<A>, rest: &[Token]) -> Result<Vec<A>, AllocError>
     ensures items { IfOk result (λ all. all.items ≡ before.items) }
     ensures room { IfOk result (λ all. vec_len all < vec_capacity all) }
 {
@@ -204,9 +204,9 @@ fn with_more_room(before: Vec<Stmt>, rest: &[Token]) -> Result<Vec<Stmt>, AllocE
     Ok(all)
 }
 
-/// The statements, with room for one more, which was read up to `rest`.
+/// The items, with room for one more, which was read up to `rest`.
 #[inline(always)]
-pub fn with_room(before: Vec<Stmt>, rest: &[Token]) -> Result<Vec<Stmt>, AllocError>
+fn with_room<A: Drop>(before: Vec<A>, rest: &[Token]) -> Result<Vec<A>, AllocError>
     ensures items { IfOk result (λ all. all.items ≡ before.items) }
     ensures room { IfOk result (λ all. vec_len all < vec_capacity all) }
 {
@@ -214,6 +214,15 @@ pub fn with_room(before: Vec<Stmt>, rest: &[Token]) -> Result<Vec<Stmt>, AllocEr
         return Ok(before);
     }
     with_more_room(before, rest)
+}
+
+/// The items, and then this one, which was read up to `rest`.
+pub fn one_more<A: Drop>(before: Vec<A>, statement: A, rest: &[Token]) -> Result<Vec<A>, AllocError>
+    ensures { IfOk result (λ all. all.items ≡ before.items ++ statement ∷ []) }
+{
+    let mut all = with_room(before, rest)?;
+    all.push_reserved(statement);
+    Ok(all)
 }
 
 /// What stands on a line behind its first statement, where that isn't the end: the statements before the line, and then all of the line.
