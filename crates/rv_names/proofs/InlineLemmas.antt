@@ -1,8 +1,8 @@
 -- Texts of ASCII: their characters are their bytes.
-use Rattle.std.proofs.Common.{◌≡◌, ℕ, zero, suc, ◌+◌, ◌<◌, ◌≤◌, List, [], ◌∷◌, length, take, set, get_or, chars, encode_utf8_all, refl, sym, ◌∙◌, arith}
-use Rattle.std.proofs.lemmas.List.{take_more_set, take_all}
+use Rattle.std.proofs.Common.{◌≡◌, ℕ, zero, suc, ◌+◌, ◌<◌, ◌≤◌, List, [], ◌∷◌, length, take, set, get_or, chars, encode_utf8_all, refl, sym, ap, ◌∙◌, arith}
+use Rattle.std.proofs.lemmas.List.{take_more_set, take_all, take-take}
 use Rattle.std.proofs.lemmas.Grind.{take_at_read}
-use Rattle.std.proofs.lemmas.Str.{encodes-IsAscii, chars-IsAscii, IsAscii-append, IsUtf8-from_ascii}
+use Rattle.std.proofs.lemmas.Str.{IsAscii-take, encodes-IsAscii, chars-IsAscii, IsAscii-append, IsUtf8-from_ascii}
 use Rattle.std.proofs.lemmas.Str.Ascii.{All-from_ascii}
 use Rattle.std.specs.Prelude.{IsAscii, IsUtf8, IsTrue}
 use Rattle.unicode_normalization.specs.Forms.{Nfkc}
@@ -46,3 +46,12 @@ ascii_identifier text ascii spelled = record { spelled = spelled; normal = norma
 pub read_identifier : (text bytes : List ℕ) → bytes ≡ encode_utf8_all text → IsAscii text → IsTrue (is_spelled_as_identifier text) → IsIdentifier (chars bytes)
 read_identifier text bytes e ascii spelled =
     rw (e, encodes-IsAscii text ascii, chars-IsAscii text ascii) (ascii_identifier text ascii spelled)
+
+-- the first so many bytes of those of a longer front
+pub front_of : (text bytes : List ℕ) (n i : ℕ) → n ≤ i → take i bytes ≡ take i text → take n bytes ≡ take n text
+front_of text bytes n i le same =
+    let short : take n (take i bytes) ≡ take n (take i text) = ap (λ (xs : List ℕ). take n xs) same in
+    sym (take-take n i bytes le) ∙ (short ∙ take-take n i text le)
+
+pub front_ascii : (text : List ℕ) (n i : ℕ) → n ≤ i → IsAscii (take i text) → IsAscii (take n text)
+front_ascii text n i le ascii = rw (take-take n i text le) at (IsAscii-take (take i text) n ascii)

@@ -1,6 +1,6 @@
 //! Names: texts that are identifiers.
 
-ghost use Rattle.std.specs.Prelude.{◌≡◌, ◌↔◌, IfOk, IfSome, OnOk, IsTrue, chars, Err, encode_utf8_all};
+ghost use Rattle.std.specs.Prelude.{◌≡◌, ◌↔◌, ◌≤◌, IfOk, IfSome, OnOk, IsTrue, chars, Err, length, take, encode_utf8_all};
 ghost use Rattle.std.specs.List.{list_all};
 ghost use Rattle.rv_names.specs.Identifier.{IsIdentifier, is_identifier_start, is_identifier_continue, is_spelled_as_identifier};
 ghost use Rattle.rv_names.specs.Keys.{bytes_equal};
@@ -93,6 +93,23 @@ impl Name {
         ensures identifier { IfSome result (λ n. IsIdentifier text.now) }
     {
         match Inline::ascii(text) {
+            Some(inline) => {
+                let text = Text::of_inline(inline);
+                Some(Name { text })
+            }
+            None => None,
+        }
+    }
+
+    /// The name of the first so many characters, at no cost but their bytes: `None` where they are more than 22, or where one
+    /// of them or of the next few isn't of ASCII.
+    pub fn front(chars: &[char], len: usize) -> Option<Name>
+        requires within { len ≤ length chars.now }
+        requires spelled { IsTrue (is_spelled_as_identifier (take len chars.now)) }
+        ensures name { IfSome result (λ n. n ≡ encode_utf8_all (take len chars.now)) }
+        ensures identifier { IfSome result (λ n. IsIdentifier (take len chars.now)) }
+    {
+        match Inline::front(chars, len) {
             Some(inline) => {
                 let text = Text::of_inline(inline);
                 Some(Name { text })

@@ -1,6 +1,6 @@
 //! Short texts, which lie in the value itself.
 
-ghost use Rattle.std.specs.Prelude.{◌≡◌, ◌↔◌, ◌≤◌, length, IfSome, IsSome, IsAscii, encode_utf8_all};
+ghost use Rattle.std.specs.Prelude.{◌≡◌, ◌↔◌, ◌≤◌, length, take, IfSome, IsSome, IsAscii, encode_utf8_all};
 
 use std::marker::Model;
 use std::str;
@@ -59,6 +59,33 @@ impl Inline {
             bytes[i] = c as u8;
         }
         let len = text.len() as u8;
+        Some(Inline { len, bytes })
+    }
+
+    /// The text of the first so many characters, where there are at most 22 of them. Of a longer list the first 22 characters
+    /// are looked at together, which is faster than to stop behind the last one, and all must be of ASCII.
+    pub(crate) fn front(chars: &[char], len: usize) -> Option<Inline>
+        requires { len ≤ length chars.now }
+        ensures kept { IfSome result (λ t. t ≡ encode_utf8_all (take len chars.now)) }
+        ensures ascii { IfSome result (λ _. IsAscii (take len chars.now)) }
+    {
+        if len > ROOM {
+            return None;
+        }
+        if chars.len() < ROOM {
+            return Inline::ascii(&chars[..len]);
+        }
+        let mut bytes = [0; ROOM];
+        let mut plain = true;
+        for i in 0..ROOM {
+            let c = chars[i] as u32;
+            plain &= c < 128;
+            bytes[i] = (c % 128) as u8;
+        }
+        if !plain {
+            return None;
+        }
+        let len = len as u8;
         Some(Inline { len, bytes })
     }
 

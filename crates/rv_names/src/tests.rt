@@ -204,6 +204,40 @@ fn texts_of_ascii(rt: HostRuntime) -> Result<(), Fail> {
     Ok(())
 }
 
+/// The text of the first so many characters, where it lies in the value.
+fn front_of(
+    rt: &(impl Abort + Alloc<A = Global>),
+    text: &str,
+    len: usize,
+) -> Result<Option<Text>, AllocError> {
+    let chars = chars_of(rt.alloc(), text)?;
+    assert!(rt; len <= chars.len(), "{text}");
+    Ok(Text::front(chars.as_slice(), len))
+}
+
+#[test]
+fn fronts_of_ascii(rt: HostRuntime) -> Result<(), Fail> {
+    for (text, len, front) in [
+        ("", 0, ""),
+        ("x = 'é'", 1, "x"),
+        ("x == y, and more than that", 4, "x =="),
+        ("abcdefghijklmnopqrstuvé", 22, "abcdefghijklmnopqrstuv"),
+    ] {
+        match front_of(&rt, text, len)? {
+            Some(found) => assert_eq!(rt; found.as_str(), front),
+            None => assert!(rt; false, "{text}"),
+        }
+    }
+    for (text, len) in [
+        ("x = 'é', and more than that", 1),
+        ("é", 1),
+        ("abcdefghijklmnopqrstuvw", 23),
+    ] {
+        assert!(rt; front_of(&rt, text, len)?.is_none(), "{text}");
+    }
+    Ok(())
+}
+
 #[test]
 fn names(rt: HostRuntime) -> Result<(), Fail> {
     for text in ["größe", "größe_in_mehr_als_22_bytes"] {

@@ -1,6 +1,6 @@
 //! Texts: short ones lie in the value itself, longer ones are shared.
 
-ghost use Rattle.std.specs.Prelude.{◌≡◌, ◌↔◌, IfOk, IfSome, IsTrue, encode_utf8_all, string_bytes};
+ghost use Rattle.std.specs.Prelude.{◌≡◌, ◌↔◌, ◌≤◌, IfOk, IfSome, IsTrue, length, take, encode_utf8_all, string_bytes};
 ghost use Rattle.rv_names.specs.Keys.{bytes_equal, bytes_order};
 
 use crate::Memory;
@@ -82,6 +82,18 @@ impl Text {
         ensures { IfSome result (λ t. t ≡ encode_utf8_all text.now) }
     {
         match Inline::ascii(text) {
+            Some(inline) => Some(Text::of_inline(inline)),
+            None => None,
+        }
+    }
+
+    /// The text of the first so many characters, at no cost but their bytes: `None` where they are more than 22, or where one
+    /// of them or of the next few isn't of ASCII.
+    pub fn front(chars: &[char], len: usize) -> Option<Text>
+        requires { len ≤ length chars.now }
+        ensures { IfSome result (λ t. t ≡ encode_utf8_all (take len chars.now)) }
+    {
+        match Inline::front(chars, len) {
             Some(inline) => Some(Text::of_inline(inline)),
             None => None,
         }
