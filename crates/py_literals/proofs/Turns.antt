@@ -10,7 +10,7 @@ use Rattle.py_literals.specs.declared.text.StringKind.{StringKind}
 use Rattle.py_literals.specs.declared.escape.Meaning.TheVariants.{Stands, Joined, Refused}
 use Rattle.py_literals.specs.Grammar.{is_digit_of}
 use Rattle.py_literals.specs.Escape.{is_character, hex_from, decoded, decoded_past, behind, meaning}
-use Rattle.py_literals.specs.Text.{body_len, body_len_past, item_len, closes}
+use Rattle.py_literals.specs.Text.{body_len, body_len_past, item_len, is_mark, closes}
 use Rattle.py_literals.specs.Formatted.{is_formed, begins_doubled, is_brace}
 
 -- hexadecimal digits
@@ -130,14 +130,10 @@ unfolding further
 body_turn k rest len n l e i p h =
     sym (map_map len n (body_len k (drop n rest))) ∙ ap (λ r. option_map (λ m. len + m) r) (sym (body_next k rest n l e i p h))
 
--- a character that is neither the quote nor a backslash, in a body that may have line ends, is an item
-goes-on : (e : Bool) → cond {A = Option ℕ} (e && not true) None (Some 1) ≡ Some 1
-goes-on true = refl
-goes-on false = refl
-
-item-alone : (k : StringKind) (c : ℕ) (cs : List ℕ) → k.triple ≡ true → eqb c 92 ≡ false → item_len k c cs ≡ Some 1
-item-alone k c [] t b = rw (b, t) (goes-on (eqb c 10))
-item-alone k c (d ∷ ds) t b = rw (b, t) (goes-on (eqb c 10))
+-- a character that ends nothing and takes no other one with it is an item
+item-alone : (k : StringKind) (c : ℕ) (cs : List ℕ) → eqb c 92 ≡ false → (eqb c 10 && not k.triple) ≡ false → item_len k c cs ≡ Some 1
+item-alone k c [] b t = rw (b, t) refl
+item-alone k c (d ∷ ds) b t = rw (b, t) refl
 
 or-first : (a b : Bool) → (a || b) ≡ false → a ≡ false
 or-first true b h = h
@@ -147,24 +143,25 @@ or-second : (a b : Bool) → (a || b) ≡ false → b ≡ false
 or-second true b h = absurd (cc)
 or-second false b h = h
 
-run-is : (k : StringKind) (n : ℕ) (cs : List ℕ) → k.triple ≡ true → n ≤ length cs → list_any (λ c. (eqb c k.quote) || (eqb c 92)) (take n cs) ≡ false
-    → body_len k cs ≡ option_map (λ m. n + m) (body_len k (drop n cs))
-run-is k zero [] t l a = refl
-run-is k zero (c ∷ cs) t l a = map_none (body_len_past k (c ∷ cs) 0)
-run-is k (suc n) [] t l a = absurd (omega arith)
-run-is k (suc n) (c ∷ cs) t l a =
-    let here : ((eqb c k.quote) || (eqb c 92)) ≡ false = or-first ((eqb c k.quote) || (eqb c 92)) (list_any (λ d. (eqb d k.quote) || (eqb d 92)) (take n cs)) a in
-    let more : list_any (λ d. (eqb d k.quote) || (eqb d 92)) (take n cs) ≡ false = or-second ((eqb c k.quote) || (eqb c 92)) (list_any (λ d. (eqb d k.quote) || (eqb d 92)) (take n cs)) a in
-    let q : eqb c k.quote ≡ false = or-first (eqb c k.quote) (eqb c 92) here in
-    let b : eqb c 92 ≡ false = or-second (eqb c k.quote) (eqb c 92) here in
+run-is : (k : StringKind) (n : ℕ) (cs : List ℕ) → n ≤ length cs → list_any (is_mark k) (take n cs) ≡ false → body_len k cs ≡ option_map (λ m. n + m) (body_len k (drop n cs))
+run-is k zero [] l a = refl
+run-is k zero (c ∷ cs) l a = map_none (body_len_past k (c ∷ cs) 0)
+run-is k (suc n) [] l a = absurd (omega arith)
+run-is k (suc n) (c ∷ cs) l a =
+    let here : is_mark k c ≡ false = or-first (is_mark k c) (list_any (is_mark k) (take n cs)) a in
+    let more : list_any (is_mark k) (take n cs) ≡ false = or-second (is_mark k c) (list_any (is_mark k) (take n cs)) a in
+    let q : eqb c k.quote ≡ false = or-first (eqb c k.quote) (eqb c 92 || (eqb c 10 && not k.triple)) here in
+    let others : (eqb c 92 || (eqb c 10 && not k.triple)) ≡ false = or-second (eqb c k.quote) (eqb c 92 || (eqb c 10 && not k.triple)) here in
+    let b : eqb c 92 ≡ false = or-first (eqb c 92) (eqb c 10 && not k.triple) others in
+    let t : (eqb c 10 && not k.triple) ≡ false = or-second (eqb c 92) (eqb c 10 && not k.triple) others in
     let w : n ≤ length cs = omega (arith, l) in
     let s : 1 + n ≡ suc n = omega arith in
-    rw (q, item-alone k c cs t b, run-is k n cs t w more, map_map 1 n (body_len k (drop n cs)), s) refl
+    rw (q, item-alone k c cs b t, run-is k n cs w more, map_map 1 n (body_len k (drop n cs)), s) refl
 
 -- a run of such characters
-pub body_run : (k : StringKind) (cs run rest : List ℕ) → k.triple ≡ true → 16 ≤ length cs → run ≡ take 16 cs → rest ≡ drop 16 cs → list_any (λ c. (eqb c k.quote) || (eqb c 92)) run ≡ false
+pub body_run : (k : StringKind) (cs run rest : List ℕ) → 16 ≤ length cs → run ≡ take 16 cs → rest ≡ drop 16 cs → list_any (is_mark k) run ≡ false
     → body_len k cs ≡ option_map (λ m. 16 + m) (body_len k rest)
-body_run k cs run rest t l r s a = rw s (run-is k 16 cs t l (rw (sym r) a))
+body_run k cs run rest l r s a = rw s (run-is k 16 cs l (rw (sym r) a))
 
 pub further_run : (len n : ℕ) (r s : Option ℕ) → r ≡ option_map (λ m. n + m) s → further (len + n) s ≡ further len r
 unfolding further

@@ -1,5 +1,5 @@
 -- What the characters of a string's body stand for (Python Language Reference, 2.4.1.1).
-use Rattle.std.specs.Prelude.{◌≡◌, ◌+◌, ◌-◌, ◌*◌, ◌==◌, ◌||◌, ◌&&◌, ℕ, zero, suc, Bool, not, nat_lt, nat_le, List, [], ◌∷◌, ◌++◌, Option, Some, None, Result, Ok, Err, if◌then◌else◌}
+use Rattle.std.specs.Prelude.{◌+◌, ◌-◌, ◌*◌, ◌==◌, ◌||◌, ◌&&◌, ℕ, zero, suc, Bool, not, nat_lt, nat_le, List, [], ◌∷◌, ◌++◌, Option, Some, None, Result, Ok, Err, if◌then◌else◌}
 use Rattle.std.specs.Char.{digit_value}
 use Rattle.py_literals.specs.declared.text.StringKind.{StringKind}
 use Rattle.py_literals.specs.declared.escape.Meaning.{Meaning}

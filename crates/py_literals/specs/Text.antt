@@ -68,6 +68,10 @@ abbrev pub item_len : StringKind → ℕ → List ℕ → Option ℕ
 item_len k c [] = if c == 92 then None else (if (c == 10) && not k.triple then None else Some 1)
 item_len k c (d ∷ ds) = if c == 92 then Some 2 else (if (c == 10) && not k.triple then None else Some 1)
 
+-- the character may close the string, or take another one with it, or end the line of a string that has no other
+abbrev pub is_mark : StringKind → ℕ → Bool
+is_mark k c = (c == k.quote) || ((c == 92) || ((c == 10) && not k.triple))
+
 -- how many characters the body has, of which the first n belong to the item before:
 -- up to the first closing quotes that no backslash escapes
 abbrev pub body_len_past : StringKind → List ℕ → ℕ → Option ℕ

@@ -29,6 +29,17 @@ impl<T: Drop> From<AllocFailed<T>> for EscapeError {
     }
 }
 
+impl From<AllocError> for EscapeError {
+    ghost use Rattle.std.specs.Prelude.{◌≡◌};
+    ghost use Rattle.py_literals.specs.declared.escape.EscapeError.TheVariants.{Memory};
+
+    ghost from_gives = { λ _ e. e ≡ Memory };
+
+    fn from(_error: AllocError) -> Self {
+        EscapeError::Memory
+    }
+}
+
 /// What the characters at the front of a body stand for.
 #[derive(Clone, Copy, Drop)]
 enum Meaning {
@@ -184,18 +195,32 @@ fn meaning_of(kind: &StringKind, c: char, rest: &[char]) -> Meaning
 /// the offset of the first such backslash.
 ///
 /// Python Language Reference, 2.4.1.1. Linear in the length of the body.
-#[tactic(auto, using(crate::proofs::Turns::decoded_turn, crate::proofs::Turns::joined_turn, crate::proofs::Turns::decoded_refused, std::proofs::lemmas::Grind::common_steps))]
 pub fn decode(alloc: Global, kind: &StringKind, body: &[char]) -> Result<Vec<char>, EscapeError>
     ensures value { IfOk result (λ v. decoded kind.now body.now ≡ Ok v.items) }
     ensures bad { (n : ℕ) → result ≡ Err (Bad n) → decoded kind.now body.now ≡ Err n }
 {
-    let mut value = Vec::new(alloc);
+    decode_in(Vec::new(alloc), kind, body)
+}
+
+/// As `decode`, in this room, which is lost where there is no value.
+#[tactic(auto, using(crate::proofs::Turns::decoded_turn, crate::proofs::Turns::joined_turn, crate::proofs::Turns::decoded_refused, std::proofs::lemmas::Grind::common_steps))]
+pub fn decode_in(
+    room: Vec<char>,
+    kind: &StringKind,
+    body: &[char],
+) -> Result<Vec<char>, EscapeError>
+    ensures value { IfOk result (λ v. decoded kind.now body.now ≡ Ok v.items) }
+    ensures bad { (n : ℕ) → result ≡ Err (Bad n) → decoded kind.now body.now ≡ Err n }
+{
+    let mut value = room;
+    value.clear();
+    value.reserve(body.len())?;
     let mut rest = body;
     let mut offset = 0;
     'pieces: while let [c, after @ ..] = rest {
         match meaning_of(kind, *c, after) {
             Meaning::Stands(v, n) => {
-                value.push(v)?;
+                value.push_reserved(v);
                 rest = &rest[n..];
                 offset += n;
             }

@@ -1,8 +1,8 @@
-ghost use Rattle.std.specs.Prelude.{◌≡◌, ◌+◌, ◌<◌, ◌≤◌, ◌==◌, ◌||◌, IfSome, false, length, drop, ℕ, List};
+ghost use Rattle.std.specs.Prelude.{◌≡◌, ◌+◌, ◌<◌, ◌≤◌, IfSome, false, length, drop, ℕ, List};
 ghost use Rattle.std.specs.List.{list_any};
 ghost use Rattle.std.specs.Option.{option_map};
 ghost use Rattle.py_literals.specs.declared.text.StringKind.{StringKind};
-ghost use Rattle.py_literals.specs.Text.{is_quote, lower, one_letter, beside_raw, two_letters, two_quotes, opened, opening, closes, item_len, body_len, EndsFirst};
+ghost use Rattle.py_literals.specs.Text.{is_quote, lower, one_letter, beside_raw, two_letters, two_quotes, opened, opening, closes, item_len, is_mark, body_len, EndsFirst};
 
 /// So many characters of a long body are looked at together.
 const RUN: usize = 16;
@@ -175,28 +175,31 @@ fn item_taken(kind: &StringKind, c: char, rest: &[char]) -> Option<usize>
     }
 }
 
-/// Whether one of the characters is the quote or a backslash. It looks at each, which is faster than to stop at the first.
-fn has_mark(quote: char, chars: &[char]) -> bool
-    ensures { result ≡ list_any (λ c. (c == quote) || (c == 92)) chars.now }
+/// Whether one of the characters is the quote or a backslash, or a line end where the body has one line. It looks at each,
+/// which is faster than to stop at the first.
+fn has_mark(kind: &StringKind, chars: &[char]) -> bool
+    ensures { result ≡ list_any (is_mark kind.now) chars.now }
 {
+    let quote = kind.quote;
+    let one_line = !kind.triple;
     let mut found = false;
     for c in chars {
-        found |= (*c == quote) | (*c == '\\');
+        found |= (*c == quote) | ((*c == '\\') | ((*c == '\n') & one_line));
     }
     found
 }
 
-/// What stands behind the next `RUN` characters of a triple-quoted body, where each of these is an item by itself.
+/// What stands behind the next `RUN` characters of a body, where each of these is an item by itself.
 #[tactic(auto, using(crate::proofs::Turns::body_run))]
 fn behind_run<'a>(kind: &StringKind, chars: &'a [char]) -> Option<&'a [char]>
     ensures within { IfSome result (λ rest. 16 + length rest.now ≡ length chars.now) }
     ensures same { IfSome result (λ rest. body_len kind.now chars.now ≡ option_map (λ m. 16 + m) (body_len kind.now rest.now)) }
 {
-    if !kind.triple || chars.len() < RUN {
+    if chars.len() < RUN {
         return None;
     }
     let (run, rest) = chars.split_at(RUN);
-    if has_mark(kind.quote, run) {
+    if has_mark(kind, run) {
         None
     } else {
         Some(rest)
