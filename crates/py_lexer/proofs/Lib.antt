@@ -19,6 +19,8 @@ pub mod StringFits
 pub mod Starts
 pub mod NoLonger
 pub mod Unbraced
+pub mod TableLemmas
+pub mod NearLemmas
 pub mod QuickLemmas
 pub mod Spaces
 pub mod PieceFits

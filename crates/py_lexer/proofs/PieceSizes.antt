@@ -1,5 +1,5 @@
 -- Each piece leaves less to read.
-use Rattle.std.proofs.Common.{◌≡◌, ℕ, zero, suc, ◌+◌, ◌-◌, ◌*◌, ◌<◌, ◌≤◌, Bool, true, false, cond, eqb, nat_lt, ap, List, [], ◌∷◌, length, take, drop, Option, Some, None, Result, Ok, Err, refl, sym, subst, arith}
+use Rattle.std.proofs.Common.{◌≡◌, ℕ, zero, suc, ◌+◌, ◌-◌, ◌<◌, ◌≤◌, Bool, true, false, cond, eqb, nat_lt, List, [], ◌∷◌, length, take, drop, Option, Some, None, Result, Ok, Err, refl, arith}
 use Rattle.std.specs.List.{prefix_len}
 use Rattle.std.proofs.lemmas.Bool.Decides.{nat_tests}
 use Rattle.std.proofs.Common.{length-drop}
@@ -7,15 +7,12 @@ use Rattle.py_literals.specs.declared.place.Pos.{Pos}
 use Rattle.py_literals.specs.declared.text.StringKind.{StringKind}
 use Rattle.py_literals.specs.declared.text.Prefix.{Prefix}
 use Rattle.py_literals.specs.declared.text.Opening.{Opening}
-use Rattle.py_literals.specs.Text.{opening, opened, two_quotes, is_quote, prefix, one_letter, two_letters, lower, body_len}
+use Rattle.py_literals.specs.Text.{opening, opened, two_quotes, is_quote, prefix, one_letter, two_letters, lower}
 use Rattle.py_literals.specs.Escape.{decoded}
 use Rattle.py_literals.specs.Formatted as literals
 use Rattle.py_lexer.specs.declared.chars.Class.{Class}
 use Rattle.py_lexer.specs.declared.chars.Class.TheVariants.{White, LineEnd, Comment, Backslash, Quote, Digit, Dot, Letter, Sign}
-use Rattle.py_lexer.specs.declared.piece.Lexeme.{Lexeme}
-use Rattle.py_lexer.specs.declared.piece.Lexeme.TheVariants.{Spelled, Refused}
-use Rattle.py_lexer.specs.declared.token.LexKind.{LexKind}
-use Rattle.py_lexer.specs.declared.token.LexKind.TheVariants.{BadChar, BadDedent, FStringForm}
+use Rattle.py_lexer.specs.declared.token.LexKind.TheVariants.{BadChar, FStringForm}
 use Rattle.py_lexer.specs.declared.token.Kind.TheVariants as kinds
 use Rattle.py_lexer.specs.declared.token.Value.TheVariants as values
 use Rattle.py_lexer.specs.declared.state.Mode.{Mode}
@@ -23,14 +20,14 @@ use Rattle.py_lexer.specs.declared.state.Mode.TheVariants as modes
 use Rattle.py_lexer.specs.declared.state.State.{State}
 use Rattle.py_lexer.specs.Chars.{class_of, is_white, is_line_end, is_in_line, is_digit}
 use Rattle.py_lexer.specs.Stack.{top}
-use Rattle.py_lexer.specs.Front.{Front, Found, Passed, Bad, Unclosed, Over, front_of_lexeme}
-use Rattle.py_lexer.specs.Words.{next_is, number, word}
-use Rattle.py_lexer.specs.Strings.{quotes_len, quotes_at, unformatted_by, unformatted, formatted, string_by, string_of, string_at, string, string_or_word_at, string_or_word}
-use Rattle.py_lexer.specs.Inside.{line_end, join, operator, number_or_operator, inside_by, inside}
-use Rattle.py_lexer.specs.Margin.{gap_len, feeds_len, indent_of, white_of, is_of, indented, margin_by, margin, is_open, bad_dedent, indentation}
-use Rattle.py_lexer.specs.Formatted.{text_by, text_of, text_or_field, literal_by, literal, field}
+use Rattle.py_lexer.specs.Front.{Front, Found, Passed, Bad, front_of_lexeme}
+use Rattle.py_lexer.specs.Words.{next_is, number}
+use Rattle.py_lexer.specs.Strings.{quotes_len, quotes_at, unformatted_by, unformatted, formatted, string_by, string_at, string_or_word_at}
+use Rattle.py_lexer.specs.Inside.{line_end, operator, inside_by, inside}
+use Rattle.py_lexer.specs.Margin.{gap_len, indent_of, white_of, is_of, margin_by, margin, is_open, bad_dedent, indentation}
+use Rattle.py_lexer.specs.Formatted.{text_by, text_of, literal_by, field}
 use Rattle.py_lexer.specs.Pieces.{last_block, last_line, finish, piece_by, piece}
-use Rattle.py_lexer.proofs.Sizes.{rank, unended, size_by, size, size_below, size_some, Shrinks, shrinks_if, ahead, IsSome, some_if, shrinks_lexeme, word_some, number_some, operator_shrinks, longest_operator_some}
+use Rattle.py_lexer.proofs.Sizes.{rank, unended, size_by, size_below, size_some, Shrinks, shrinks_if, ahead, IsSome, some_if, shrinks_lexeme, word_some, number_some, operator_shrinks, longest_operator_some}
 
 -- strings
 

@@ -9,7 +9,7 @@ use Rattle.py_literals.specs.declared.place.Pos.{Pos}
 use Rattle.py_literals.specs.Place.{after}
 use Rattle.py_literals.specs.Text.{opening}
 use Rattle.py_lexer.specs.declared.chars.Class.{Class}
-use Rattle.py_lexer.specs.declared.chars.Class.TheVariants.{LineEnd, Letter, Sign, Dot}
+use Rattle.py_lexer.specs.declared.chars.Class.TheVariants.{LineEnd, Letter, Sign, Dot, Quote}
 use Rattle.py_lexer.specs.declared.token.Kind.{Kind}
 use Rattle.py_lexer.specs.declared.token.Token.{Token}
 use Rattle.py_lexer.specs.declared.token.Value.TheVariants.{Nothing}
@@ -19,16 +19,17 @@ use Rattle.py_lexer.specs.Chars.{class_of, is_line_end, is_quote, is_digit}
 use Rattle.py_lexer.specs.Front.{Front, Found, front_of_lexeme}
 use Rattle.py_lexer.specs.Operators.{sign, may_go_on}
 use Rattle.py_lexer.specs.Words.{next_is, word, word_len}
+use Rattle.py_lexer.specs.Strings.{string}
 use Rattle.py_lexer.specs.Inside.{bracketed, operator}
 use Rattle.py_lexer.specs.Pieces.{piece}
-use Rattle.py_lexer.specs.Quick.{IsPushed, has_quote_near}
+use Rattle.py_lexer.specs.Quick.{IsPushed, IsLineEnded, has_quote_near}
 use Rattle.py_lexer.proofs.OperatorLemmas.{alone}
 use Rattle.py_lexer.proofs.WordLemmas.{front_passes}
 use Rattle.py_lexer.proofs.StringFits.{no_opening_three}
 use Rattle.py_lexer.proofs.NoLonger.{Says, class_says}
 use Rattle.py_lexer.proofs.Places.{after_in_line}
 use Rattle.py_lexer.proofs.Sizes.{size}
-use Rattle.py_lexer.proofs.Runs.{Leads, leads_found, found_shrinks, moved_line, moved_col}
+use Rattle.py_lexer.proofs.Runs.{Leads, leads_found, leads_passed, found_shrinks, passed_shrinks, moved_line, moved_col}
 
 -- a first character, and the rest
 pub parts_at : (cs : List ℕ) (a : ℕ) → 1 ≤ length cs → a ≡ get_or cs 0 a → cs ≡ a ∷ take (length cs - 1) (drop 1 cs)
@@ -56,6 +57,12 @@ pub word_here : (at : Pos) (s : State) (a : ℕ) (rest cs : List ℕ) → cs ≡
 word_here at s a rest cs parts m e h =
     let says : Says Letter a = says_at a Letter e in
     rw (parts, m, e, no_opening_near a rest says.1 h) refl
+
+pub quote_says : (a : ℕ) → class_of a ≡ Quote → is_quote a ≡ true
+quote_says a e = says_at a Quote e
+
+pub quote_here : (at : Pos) (s : State) (a : ℕ) (rest cs : List ℕ) → cs ≡ a ∷ rest → s.mode ≡ modes.Inside → class_of a ≡ Quote → piece at s cs ≡ string s (a ∷ rest)
+quote_here at s a rest cs parts m e = rw (parts, m, e) refl
 
 pub sign_here : (at : Pos) (s : State) (a : ℕ) (rest cs : List ℕ) → cs ≡ a ∷ rest → s.mode ≡ modes.Inside → class_of a ≡ Sign → piece at s cs ≡ operator at s a rest
 sign_here at s a rest cs parts m e = rw (parts, m, e) refl
@@ -145,8 +152,13 @@ pub still_thrice : (xs ys zs : List Token) (s t u v : State) → t ≡ s → (ys
 still_thrice xs ys zs s t u v e h k = (k.0 ∙ h.0, k.1 ∙ (h.1 ∙ e))
 
 -- behind the end of a line
-pub leads_ended : (text : List ℕ) (before behind : List Token) (at : Pos) (s t : State) (cs : List ℕ) → Leads text before at s cs → IsPushed at (piece at s cs) 1 t before behind → take 1 cs ≡ 10 ∷ [] → Leads text behind (after at (10 ∷ [])) t (drop 1 cs)
-leads_ended text before behind at s t cs l h e = rw h.pushed (rw e at (leads_found text before at s t cs 1 h.kind h.value l h.found))
+pub leads_ended : (text : List ℕ) (before behind : List Token) (at : Pos) (s t : State) (cs : List ℕ) → Leads text before at s cs → IsLineEnded at (piece at s cs) t before behind → take 1 cs ≡ 10 ∷ [] → Leads text behind (after at (10 ∷ [])) t (drop 1 cs)
+leads_ended text before behind at s t cs l (inl h) e = rw h.pushed (rw e at (leads_found text before at s t cs 1 h.kind h.value l h.found))
+leads_ended text before behind at s t cs l (inr h) e = rw h.1 (rw e at (leads_passed text before at s t cs 1 l h.0))
+
+pub ended_shrinks : (at : Pos) (s t : State) (cs : List ℕ) (before behind : List Token) → IsLineEnded at (piece at s cs) t before behind → size t (drop 1 cs) < size s cs
+ended_shrinks at s t cs before behind (inl h) = pushed_shrinks at s t cs 1 before behind h
+ended_shrinks at s t cs before behind (inr h) = passed_shrinks at s t cs 1 h.0
 
 pub ended_line : (at : Pos) (cs : List ℕ) (m : ℕ) → take 1 cs ≡ 10 ∷ [] → at.line + length cs ≤ m → (after at (10 ∷ [])).line + length (drop 1 cs) ≤ m
 ended_line at cs m e h = rw e at (moved_line at cs 1 m h)

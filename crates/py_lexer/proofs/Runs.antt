@@ -1,18 +1,18 @@
 -- Runs of pieces.
-use Rattle.std.proofs.Common.{◌≡◌, ℕ, zero, suc, ◌+◌, ◌-◌, ◌<◌, ◌≤◌, List, [], ◌∷◌, ◌++◌, length, take, drop, length-drop, length-take, ◌⊎◌, inl, inr, refl, sym, ap, subst, ◌∙◌, append_assoc, append-nil, arith}
+use Rattle.std.proofs.Common.{◌≡◌, ℕ, ◌+◌, ◌-◌, ◌<◌, ◌≤◌, List, [], ◌∷◌, ◌++◌, length, take, drop, length-drop, length-take, sym, append_assoc, append-nil, arith}
 use Rattle.py_literals.specs.declared.place.Pos.{Pos}
-use Rattle.py_literals.specs.Place.{past, after}
+use Rattle.py_literals.specs.Place.{after}
 use Rattle.py_lexer.specs.declared.token.Kind.{Kind}
 use Rattle.py_lexer.specs.declared.token.Value.{Value}
 use Rattle.py_lexer.specs.declared.token.Token.{Token}
 use Rattle.py_lexer.specs.declared.token.LexKind.{LexKind}
 use Rattle.py_lexer.specs.declared.token.LexKind.TheVariants.{OpenBracket}
 use Rattle.py_lexer.specs.declared.state.State.{State}
-use Rattle.py_lexer.specs.Front.{Front, Found, Passed, Bad, Unclosed, Over}
+use Rattle.py_lexer.specs.Front.{Found, Passed, Bad, Unclosed, Over}
 use Rattle.py_lexer.specs.Pieces.{piece}
 use Rattle.py_lexer.specs.Runs.{token, Tokens, over, found, passed, Faulty, bad, unclosed, behind_token, behind, first_place, start}
 use Rattle.py_lexer.proofs.Places.{after_line, after_col}
-use Rattle.py_lexer.proofs.Sizes.{size_by, size, Shrinks}
+use Rattle.py_lexer.proofs.Sizes.{size_by, size}
 use Rattle.py_lexer.proofs.PieceSizes.{piece_shrinks}
 
 -- what is read from s on, behind the tokens read before, is what the whole text has

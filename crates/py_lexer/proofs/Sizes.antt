@@ -1,20 +1,14 @@
 -- Each piece leaves less to read.
-use Rattle.std.proofs.Common.{◌≡◌, ℕ, zero, suc, ◌+◌, ◌-◌, ◌*◌, ◌<◌, ◌≤◌, Bool, true, false, cond, nat_lt, ap, List, [], ◌∷◌, length, take, drop, Option, Some, None, Result, Ok, Err, refl, arith}
+use Rattle.std.proofs.Common.{◌≡◌, ℕ, zero, suc, ◌+◌, ◌-◌, ◌*◌, ◌<◌, ◌≤◌, Bool, true, false, cond, nat_lt, ap, List, [], ◌∷◌, length, drop, Option, Some, None, refl, arith}
 use Rattle.std.specs.Prelude.{encode_utf8_all}
 use Rattle.std.proofs.lemmas.Bool.Decides.{nat_tests}
 use Rattle.unicode_normalization.specs.Forms.{is_in_form, Nfkc}
 use Rattle.rv_names.specs.Identifier.{is_identifier_continue}
 use Rattle.py_literals.specs.declared.place.Pos.{Pos}
-use Rattle.py_literals.specs.declared.text.StringKind.{StringKind}
-use Rattle.py_literals.specs.declared.text.Prefix.{Prefix}
-use Rattle.py_literals.specs.declared.text.Opening.{Opening}
 use Rattle.py_literals.specs.declared.number.NumberFront.{NumberFront}
 use Rattle.py_literals.specs.declared.number.NumberValue.{NumberValue}
 use Rattle.py_literals.specs.declared.number.NumberValue.TheVariants as numbers
-use Rattle.py_literals.specs.Text as texts
 use Rattle.py_literals.specs.Number as literals
-use Rattle.py_lexer.specs.declared.chars.Class.{Class}
-use Rattle.py_lexer.specs.declared.chars.Class.TheVariants.{White, LineEnd, Comment, Backslash, Quote, Digit, Dot, Letter, Sign}
 use Rattle.py_lexer.specs.declared.operators.Operator.{Operator}
 use Rattle.py_lexer.specs.declared.piece.Lexeme.{Lexeme}
 use Rattle.py_lexer.specs.declared.piece.Lexeme.TheVariants.{Spelled, Refused}
@@ -26,8 +20,8 @@ use Rattle.py_lexer.specs.declared.state.Mode.{Mode}
 use Rattle.py_lexer.specs.declared.state.Mode.TheVariants as modes
 use Rattle.py_lexer.specs.declared.state.State.{State}
 use Rattle.py_lexer.specs.Front.{Front, Found, Passed, Bad, Unclosed, Over, front_of_lexeme}
-use Rattle.py_lexer.specs.Words.{next_is, word_by, word_len, word, number_of, number_by, number}
-use Rattle.py_lexer.specs.Inside.{bracketed, is_opening, is_closing, operator_by, inside_by, inside, line_end, join}
+use Rattle.py_lexer.specs.Words.{next_is, word_by, word, number_of, number_by, number}
+use Rattle.py_lexer.specs.Inside.{bracketed, is_opening, is_closing, operator_by}
 use Rattle.py_lexer.specs.Operators.{operator_or, longest_operator, sign, two_signs, three_signs}
 
 abbrev pub rank : Mode → ℕ

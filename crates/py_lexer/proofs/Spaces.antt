@@ -1,5 +1,5 @@
 -- What stands between tokens and is passed as soon as it is told.
-use Rattle.std.proofs.Common.{◌≡◌, ℕ, zero, suc, ◌+◌, ◌*◌, ◌-◌, ◌<◌, ◌≤◌, ◌⊎◌, inl, inr, Bool, true, false, cond, eqb, ◌||◌, ◌&&◌, List, [], ◌∷◌, length, take, drop, length-take, length-drop, Option, Some, None, IfSome, MatchOption, refl, sym, ap, subst, ◌∙◌, arith}
+use Rattle.std.proofs.Common.{◌≡◌, ℕ, suc, ◌+◌, ◌-◌, ◌<◌, ◌≤◌, ◌⊎◌, inl, inr, Bool, true, false, cond, eqb, ◌||◌, List, [], ◌∷◌, length, take, drop, length-take, length-drop, Option, Some, None, IfSome, MatchOption, refl, sym, ap, subst, ◌∙◌, arith}
 use Rattle.std.specs.Prelude.{nat_lt}
 use Rattle.std.specs.List.{prefix_len, list_all, list_any}
 use Rattle.std.proofs.lemmas.Bool.{and_parts, or_parts, or_from, eqb-true, false≢true}
@@ -20,7 +20,7 @@ use Rattle.py_lexer.specs.Gap.{is_space, is_gap, gap_next, white_fits, IsBehindG
 use Rattle.py_lexer.proofs.WordLemmas.{front_passes}
 use Rattle.py_lexer.proofs.Sizes.{size}
 use Rattle.py_lexer.proofs.QuickLemmas.{place_behind}
-use Rattle.py_lexer.proofs.Runs.{Leads, leads_passed, passed_shrinks, moved_line, moved_col}
+use Rattle.py_lexer.proofs.Runs.{Leads, leads_passed, passed_shrinks}
 
 abbrev spaces : List ℕ → ℕ
 spaces cs = prefix_len is_space cs
@@ -172,23 +172,10 @@ margin_behind s t cs rest n m e le parts g w (inr i) =
       entered = inr (λ at. rw i.1 (line_entered_by at s n (drop n cs) k i.0));
     }
 
--- one blank between two tokens
-pub blank_behind : (s : State) (cs rest : List ℕ) → rest ≡ drop 1 cs → take 1 cs ≡ 32 ∷ [] → ((at : Pos) → Passed 1 s ≡ piece at s cs) → IsBehindGap s cs s rest
-blank_behind s cs rest parts b h =
-    let l : length (take 1 cs) ≡ 1 = rw b refl in
-    record {
-      n = 1;
-      parts = parts;
-      within = omega (arith, length-take 1 cs);
-      in_line = rw b refl;
-      between = s;
-      passed = h;
-      entered = inl refl;
-    }
-
-pub blank_told : {X : Type 0} (r : Option X) (now : X → List ℕ) (s : State) (cs : List ℕ) → IfSome r (λ x. now x ≡ drop 1 cs) → IfSome r (λ x. take 1 cs ≡ 32 ∷ []) → IfSome r (λ x. (at : Pos) → Passed 1 s ≡ piece at s cs) → MatchOption r (s ≡ s) (λ x. IsBehindGap s cs s (now x))
-blank_told None now s cs a b h = refl
-blank_told (Some x) now s cs a b h = blank_behind s cs (now x) a b h
+-- where nothing is entered
+pub gap_told : {X : Type 0} (r : Option X) (now : X → List ℕ) (s : State) (cs : List ℕ) → IfSome r (λ x. IsBehindGap s cs s (now x)) → MatchOption r (s ≡ s) (λ x. IsBehindGap s cs s (now x))
+gap_told None now s cs h = refl
+gap_told (Some x) now s cs h = h
 
 -- what is read behind them
 

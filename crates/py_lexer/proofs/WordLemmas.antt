@@ -1,9 +1,9 @@
 -- Words: their characters, their bytes, and their normal form.
-use Rattle.std.proofs.Common.{◌≡◌, ℕ, suc, ◌+◌, ◌<◌, Bool, true, false, cond, ◌&&◌, List, [], ◌∷◌, ◌++◌, length, take, drop, get_or, drop-cons, add-one, append_assoc, None, encode_utf8_all, encode_utf8, chars, refl, sym, ap, subst, ◌∙◌, arith}
+use Rattle.std.proofs.Common.{◌≡◌, ℕ, suc, ◌+◌, ◌<◌, Bool, true, false, cond, List, [], ◌∷◌, ◌++◌, length, take, drop, get_or, drop-cons, add-one, append_assoc, None, encode_utf8_all, encode_utf8, chars, refl, sym, subst, ◌∙◌, arith}
 use Rattle.std.specs.List.{prefix_len, list_all}
 use Rattle.std.specs.Str.{IsUtf8}
 use Rattle.std.proofs.lemmas.Str.{chars_from_encodes}
-use Rattle.unicode_normalization.specs.Forms.{is_in_form, IsInForm, Nfkc}
+use Rattle.unicode_normalization.specs.Forms.{is_in_form, Nfkc}
 use Rattle.unicode_normalization.proofs.FormsLemmas.{is_in_form-true, is_in_form_from}
 use Rattle.rv_names.specs.Identifier.{IsIdentifier, is_spelled_as_identifier, is_identifier_start, is_identifier_continue}
 use Rattle.py_lexer.specs.declared.piece.Lexeme.TheVariants.{Spelled, Refused}

@@ -4,7 +4,6 @@ use Rattle.std.specs.List.{prefix_len, take_while}
 use Rattle.py_literals.specs.declared.place.Pos.{Pos}
 use Rattle.py_lexer.specs.declared.token.Kind.TheVariants as kinds
 use Rattle.py_lexer.specs.declared.token.Value.TheVariants as values
-use Rattle.py_lexer.specs.declared.token.LexKind.{LexKind}
 use Rattle.py_lexer.specs.declared.token.LexKind.TheVariants.{BadChar, MixedIndent, BadDedent}
 use Rattle.py_lexer.specs.declared.state.Mode.TheVariants as modes
 use Rattle.py_lexer.specs.declared.state.White.{White}
@@ -12,7 +11,7 @@ use Rattle.py_lexer.specs.declared.state.White.TheVariants.{Spaces, Tabs}
 use Rattle.py_lexer.specs.declared.state.State.{State}
 use Rattle.py_lexer.specs.Chars.{is_white, is_line_end, is_in_line}
 use Rattle.py_lexer.specs.Stack.{top, has_column}
-use Rattle.py_lexer.specs.Front.{Front, Found, Passed, Bad, Unclosed, Over}
+use Rattle.py_lexer.specs.Front.{Front, Found, Passed, Bad}
 use Rattle.py_lexer.specs.Inside.{inside}
 
 -- how much white space, and how many joins, stand at the front

@@ -32,6 +32,11 @@ sign c =
     if c == 62 then Some kinds.Greater else (
     None)))))))))))))))))))))))
 
+-- its kind, and in the place of none that of a line end
+abbrev pub kind_or_newline : Option Kind → Kind
+kind_or_newline None = kinds.Newline
+kind_or_newline (Some k) = k
+
 -- of this character and `=`
 abbrev pub before_equal : ℕ → Option Kind
 before_equal c =

@@ -1,5 +1,5 @@
 -- A text's tokens, or its one fault: piece by piece, from the left.
-use Rattle.std.specs.Prelude.{◌≡◌, ℕ, List, [], ◌∷◌, ◌++◌, take, drop, None}
+use Rattle.std.specs.Prelude.{◌≡◌, ℕ, List, [], ◌∷◌, take, drop, None}
 use Rattle.py_literals.specs.declared.place.Pos.{Pos}
 use Rattle.py_literals.specs.Place.{after}
 use Rattle.py_lexer.specs.declared.token.Kind.{Kind}
@@ -11,7 +11,7 @@ use Rattle.py_lexer.specs.declared.token.LexError.{LexError}
 use Rattle.py_lexer.specs.declared.token.LexError.TheVariants as errors
 use Rattle.py_lexer.specs.declared.state.Mode.TheVariants as modes
 use Rattle.py_lexer.specs.declared.state.State.{State}
-use Rattle.py_lexer.specs.Front.{Front, Found, Passed, Bad, Unclosed, Over}
+use Rattle.py_lexer.specs.Front.{Found, Passed, Bad, Unclosed, Over}
 use Rattle.py_lexer.specs.Pieces.{piece}
 use Rattle.py_lexer.specs.Source.{source_chars}
 

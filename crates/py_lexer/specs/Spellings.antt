@@ -7,3 +7,6 @@ is_spelled [] [] = true
 is_spelled [] (b ∷ bs) = false
 is_spelled (c ∷ cs) [] = false
 is_spelled (c ∷ cs) (b ∷ bs) = (nat_lt b 128 && (c == b)) && is_spelled cs bs
+
+abbrev pub is_ascii : ℕ → Bool
+is_ascii c = nat_lt c 128

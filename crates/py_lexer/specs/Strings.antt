@@ -1,5 +1,5 @@
 -- Strings at the front of a text (Language Reference, 2.4.1 to 2.4.3).
-use Rattle.std.specs.Prelude.{ℕ, Bool, true, false, ◌+◌, ◌-◌, min, List, length, take, drop, Option, Some, None, Result, Ok, Err, encode_utf8_all, if◌then◌else◌}
+use Rattle.std.specs.Prelude.{ℕ, ◌+◌, ◌-◌, min, List, length, take, drop, Option, Some, None, Result, Ok, Err, encode_utf8_all, if◌then◌else◌}
 use Rattle.py_literals.specs.declared.text.StringKind.{StringKind}
 use Rattle.py_literals.specs.declared.text.Opening.{Opening}
 use Rattle.py_literals.specs.Text.{opening, body_len}
@@ -22,12 +22,14 @@ quotes_len kind = if kind.triple then 3 else 1
 abbrev pub quotes_at : Opening → ℕ
 quotes_at o = o.len - quotes_len o.kind
 
+-- the string of this opening, of n characters in all, and its value
+abbrev pub valued : Opening → ℕ → List ℕ → Lexeme
+valued o n value = if o.kind.bytes then Spelled n kinds.Bytes values.Nothing else Spelled n kinds.Text (values.Text (encode_utf8_all value))
+
 -- the string of this opening, its body of n characters and its value, or the offset in it of its first bad escape
 abbrev pub unformatted_by : Opening → ℕ → Result (List ℕ) ℕ → Lexeme
 unformatted_by o n (Err bad) = Refused BadEscape (o.len + min bad n)
-unformatted_by o n (Ok value) =
-    if o.kind.bytes then Spelled (o.len + n + quotes_len o.kind) kinds.Bytes values.Nothing
-    else Spelled (o.len + n + quotes_len o.kind) kinds.Text (values.Text (encode_utf8_all value))
+unformatted_by o n (Ok value) = valued o (o.len + n + quotes_len o.kind) value
 
 abbrev pub unformatted : Opening → List ℕ → Lexeme
 unformatted o body = unformatted_by o (length body) (decoded o.kind body)

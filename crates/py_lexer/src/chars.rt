@@ -2,7 +2,7 @@
 
 ghost use Rattle.std.specs.Prelude.{◌≡◌, ◌≤◌, length};
 ghost use Rattle.std.specs.List.{prefix_len};
-ghost use Rattle.rv_names.specs.Identifier.{is_identifier_start, is_identifier_continue};
+ghost use Rattle.rv_names.specs.Identifier.{is_identifier_continue};
 ghost use Rattle.py_lexer.specs.Chars.{class_of, is_white, is_in_line, is_digit};
 
 use rv_names::{is_identifier_continue, is_identifier_start};
@@ -30,52 +30,174 @@ pub enum Class {
     Sign,
 }
 
-/// Whether a name may begin with the character. One of ASCII needs no table.
-#[tactic(auto, using(crate::proofs::CharLemmas::start_ascii))]
-fn may_start_name(c: char) -> bool
-    ensures { result ≡ is_identifier_start c }
-{
-    if (c as u32) < 128 {
-        c.is_ascii_alphabetic() | (c == '_')
-    } else {
-        is_identifier_start(c)
-    }
-}
+/// Whether a name may go on with each character of ASCII.
+static CONTINUES: [bool; 128] = [
+    false, false, false, false, false, false, false, false, false, false, false, false, false,
+    false, false, false, false, false, false, false, false, false, false, false, false, false,
+    false, false, false, false, false, false, false, false, false, false, false, false, false,
+    false, false, false, false, false, false, false, false, false, true, true, true, true, true,
+    true, true, true, true, true, false, false, false, false, false, false, false, true, true,
+    true, true, true, true, true, true, true, true, true, true, true, true, true, true, true, true,
+    true, true, true, true, true, true, true, true, false, false, false, false, true, false, true,
+    true, true, true, true, true, true, true, true, true, true, true, true, true, true, true, true,
+    true, true, true, true, true, true, true, true, true, false, false, false, false, false,
+];
 
-/// Whether a name may go on with the character. One of ASCII needs no table, and most are small letters.
-#[tactic(auto, using(crate::proofs::CharLemmas::continue_ascii))]
+/// Whether a name may go on with the character. One of ASCII is looked up.
+#[inline(always)]
 pub fn may_continue_name(c: char) -> bool
     ensures { result ≡ is_identifier_continue c }
 {
-    if matches!(c, 'a'..='z') {
-        true
-    } else if (c as u32) < 128 {
-        c.is_ascii_alphanumeric() | (c == '_')
+    if (c as u32) < 128 {
+        CONTINUES[c as usize]
     } else {
         is_identifier_continue(c)
     }
 }
 
-/// What the character may begin.
+/// What each character of ASCII may begin.
+static CLASSES: [Class; 128] = [
+    Class::Sign,
+    Class::Sign,
+    Class::Sign,
+    Class::Sign,
+    Class::Sign,
+    Class::Sign,
+    Class::Sign,
+    Class::Sign,
+    Class::Sign,
+    Class::White,
+    Class::LineEnd,
+    Class::Sign,
+    Class::White,
+    Class::Sign,
+    Class::Sign,
+    Class::Sign,
+    Class::Sign,
+    Class::Sign,
+    Class::Sign,
+    Class::Sign,
+    Class::Sign,
+    Class::Sign,
+    Class::Sign,
+    Class::Sign,
+    Class::Sign,
+    Class::Sign,
+    Class::Sign,
+    Class::Sign,
+    Class::Sign,
+    Class::Sign,
+    Class::Sign,
+    Class::Sign,
+    Class::White,
+    Class::Sign,
+    Class::Quote,
+    Class::Comment,
+    Class::Sign,
+    Class::Sign,
+    Class::Sign,
+    Class::Quote,
+    Class::Sign,
+    Class::Sign,
+    Class::Sign,
+    Class::Sign,
+    Class::Sign,
+    Class::Sign,
+    Class::Dot,
+    Class::Sign,
+    Class::Digit,
+    Class::Digit,
+    Class::Digit,
+    Class::Digit,
+    Class::Digit,
+    Class::Digit,
+    Class::Digit,
+    Class::Digit,
+    Class::Digit,
+    Class::Digit,
+    Class::Sign,
+    Class::Sign,
+    Class::Sign,
+    Class::Sign,
+    Class::Sign,
+    Class::Sign,
+    Class::Sign,
+    Class::Letter,
+    Class::Letter,
+    Class::Letter,
+    Class::Letter,
+    Class::Letter,
+    Class::Letter,
+    Class::Letter,
+    Class::Letter,
+    Class::Letter,
+    Class::Letter,
+    Class::Letter,
+    Class::Letter,
+    Class::Letter,
+    Class::Letter,
+    Class::Letter,
+    Class::Letter,
+    Class::Letter,
+    Class::Letter,
+    Class::Letter,
+    Class::Letter,
+    Class::Letter,
+    Class::Letter,
+    Class::Letter,
+    Class::Letter,
+    Class::Letter,
+    Class::Letter,
+    Class::Sign,
+    Class::Backslash,
+    Class::Sign,
+    Class::Sign,
+    Class::Letter,
+    Class::Sign,
+    Class::Letter,
+    Class::Letter,
+    Class::Letter,
+    Class::Letter,
+    Class::Letter,
+    Class::Letter,
+    Class::Letter,
+    Class::Letter,
+    Class::Letter,
+    Class::Letter,
+    Class::Letter,
+    Class::Letter,
+    Class::Letter,
+    Class::Letter,
+    Class::Letter,
+    Class::Letter,
+    Class::Letter,
+    Class::Letter,
+    Class::Letter,
+    Class::Letter,
+    Class::Letter,
+    Class::Letter,
+    Class::Letter,
+    Class::Letter,
+    Class::Letter,
+    Class::Letter,
+    Class::Sign,
+    Class::Sign,
+    Class::Sign,
+    Class::Sign,
+    Class::Sign,
+];
+
+/// What the character may begin. One of ASCII is looked up.
 #[inline(always)]
 pub fn class_of(c: char) -> Class
     ensures { result ≡ class_of c }
 {
-    match c {
-        ' ' | '\t' | '\x0c' => Class::White,
-        '\n' => Class::LineEnd,
-        '#' => Class::Comment,
-        '\\' => Class::Backslash,
-        '"' | '\'' => Class::Quote,
-        '0'..='9' => Class::Digit,
-        '.' => Class::Dot,
-        _ => {
-            if may_start_name(c) {
-                Class::Letter
-            } else {
-                Class::Sign
-            }
-        }
+    if (c as u32) < 128 {
+        CLASSES[c as usize]
+    } else if is_identifier_start(c) {
+        Class::Letter
+    } else {
+        Class::Sign
     }
 }
 

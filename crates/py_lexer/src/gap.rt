@@ -1,45 +1,47 @@
 //! What stands between two tokens, or before the first one of a line, where it is passed at once.
 
-ghost use Rattle.std.specs.Prelude.{◌≡◌, ◌∷◌, ◌≤◌, [], length, take, drop, IfSome, MatchOption};
-ghost use Rattle.std.specs.List.{prefix_len};
+ghost use Rattle.std.specs.Prelude.{◌≡◌, ◌∷◌, ◌+◌, ◌≤◌, length, take, false, IfSome, MatchOption};
+ghost use Rattle.std.specs.List.{prefix_len, list_any};
 ghost use Rattle.py_literals.specs.declared.place.Pos.{Pos};
 ghost use Rattle.py_lexer.specs.declared.state.Mode.TheVariants.{LineStart};
-ghost use Rattle.py_lexer.specs.Chars.{is_white};
+ghost use Rattle.py_lexer.specs.declared.state.State.{State};
+ghost use Rattle.py_lexer.specs.Chars.{is_line_end};
 ghost use Rattle.py_lexer.specs.Front.{Passed};
-ghost use Rattle.py_lexer.specs.Words.{next_is};
-ghost use Rattle.py_lexer.specs.Pieces.{piece};
+ghost use Rattle.py_lexer.specs.Inside.{inside};
 ghost use Rattle.py_lexer.specs.Gap.{is_space, gap_next, white_fits, IsBehindGap};
 
-use crate::chars::is_white;
+use crate::chars::{is_white, line_len, white_len};
 use crate::state::{Mode, State, White};
 
-fn is_white_next(chars: &[char]) -> bool
-    ensures { result ≡ next_is is_white chars.now }
+/// How many characters of white space, or of a comment, stand at the front inside a logical line, where one of these does.
+fn passed_len(first: char, rest: &[char]) -> Option<usize>
+    ensures passed { IfSome result (λ n. (at : Pos) (s : State) → Passed n s ≡ inside at s first rest.now) }
+    ensures in_line { IfSome result (λ n. list_any is_line_end (take n (first ∷ rest.now)) ≡ false) }
+    ensures within { IfSome result (λ n. n ≤ 1 + length rest.now) }
 {
-    match chars {
-        [] => false,
-        [c, ..] => is_white(*c),
+    if is_white(first) {
+        Some(1 + white_len(rest))
+    } else if first == '#' {
+        Some(1 + line_len(rest))
+    } else {
+        None
     }
 }
 
-/// What follows one blank between two tokens, where such a blank stands at the front. Most pieces without a token are that.
-#[tactic(auto, using(crate::proofs::Blanks::blank_passed))]
-fn behind_blank<'a>(state: &State, chars: &'a [char]) -> Option<&'a [char]>
-    ensures rest { IfSome result (λ rest. rest.now ≡ drop 1 chars.now) }
-    ensures blank { IfSome result (λ rest. take 1 chars.now ≡ 32 ∷ []) }
-    ensures passed { IfSome result (λ rest. (at : Pos) → Passed 1 state.now ≡ piece at state.now chars.now) }
+/// What follows the white space or the comment at the front, inside a logical line.
+fn behind_white<'a>(state: &State, chars: &'a [char]) -> Option<&'a [char]>
+    ensures rest { IfSome result (λ rest. IsBehindGap state.now chars.now state.now rest.now) }
+    ensures shorter { IfSome result (λ rest. length rest.now ≤ length chars.now) }
 {
-    if state.mode != Mode::Inside {
-        return None;
-    }
-    let [' ', rest @ ..] = chars else {
+    let Mode::Inside = state.mode else {
         return None;
     };
-    if is_white_next(rest) {
-        None
-    } else {
-        Some(rest)
-    }
+    let [first, rest @ ..] = chars else {
+        return None;
+    };
+    let len = passed_len(*first, rest)?;
+    let (_, behind) = chars.split_at(len);
+    Some(behind)
 }
 
 /// How many spaces stand at the front.
@@ -90,14 +92,17 @@ fn behind_margin<'a>(state: &mut State, chars: &'a [char]) -> Option<&'a [char]>
     Some(line)
 }
 
-/// What follows one blank between two tokens, or the spaces before the first token of a line, where they stand at the front.
+/// What follows the white space or the comment between two tokens, or the spaces before the first token of a line, where they
+/// stand at the front.
 pub fn behind_gap<'a>(state: &mut State, chars: &'a [char]) -> Option<&'a [char]>
     ensures rest { MatchOption result (state.new ≡ state.old) (λ rest. IsBehindGap state.old chars.now state.new rest.now) }
     ensures shorter { IfSome result (λ rest. length rest.now ≤ length chars.now) }
 {
-    match state.mode {
-        Mode::Inside => behind_blank(state, chars),
-        Mode::LineStart => behind_margin(state, chars),
-        _ => None,
+    if let Mode::Inside = state.mode {
+        return behind_white(state, chars);
     }
+    if let Mode::LineStart = state.mode {
+        return behind_margin(state, chars);
+    }
+    None
 }

@@ -13,7 +13,7 @@ use crate::gap::behind_gap;
 use crate::inside::inside;
 use crate::margin::{indentation, margin};
 use crate::piece::Piece;
-use crate::quick::{push_line_end, push_quick};
+use crate::quick::{pass_line_end, push_quick};
 use crate::scratch::Scratch;
 use crate::source::source_chars;
 use crate::spellings::Spellings;
@@ -166,7 +166,7 @@ fn tokens_of(
             rest = behind;
             continue 'pieces;
         }
-        let ended = push_line_end(at, state, rest, &mut tokens)?;
+        let ended = pass_line_end(at, state, rest, &mut tokens)?;
         if ended {
             at = next_line(at);
             rest = parted(rest, 1).1;

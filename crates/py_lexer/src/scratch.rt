@@ -5,12 +5,12 @@ use crate::state::State;
 use crate::token::Token;
 use std::alloc::Global;
 
-/// What is kept from one text to the next while texts are read: room for characters, for tokens, for the open brackets and
-/// blocks, and for the spelling of one word or string. No answer depends on it.
+/// What is kept from one text to the next: room for characters, tokens, open brackets and blocks, one spelling and one value.
+/// No answer depends on it.
 ///
 /// It keeps at most four bytes for each byte of the longest text, or eight where a text has characters outside ASCII, the
-/// room of the tokens that were handed back last, that of the longest spelling, and that of the most brackets and blocks that
-/// were open at once.
+/// room of the tokens that were handed back last, that of the longest spelling, that of the value of the longest string with
+/// escapes, four bytes a character, and that of the most brackets and blocks that were open at once.
 #[derive(Debug, Drop)]
 pub struct Scratch {
     pub(crate) chars: Vec<char>,

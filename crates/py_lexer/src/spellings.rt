@@ -1,7 +1,8 @@
 //! What words and texts are spelled as.
 
 ghost use Rattle.std.specs.Prelude.{◌≡◌, ◌+◌, ◌≤◌, [], length, IsTrue, IfOk, IfSome, OnOk, IsAscii, encode_utf8_all, string_bytes, vec_len, vec_capacity};
-ghost use Rattle.py_lexer.specs.Spellings.{is_spelled};
+ghost use Rattle.std.specs.List.{list_all};
+ghost use Rattle.py_lexer.specs.Spellings.{is_spelled, is_ascii};
 
 use rv_names::{Memory, Text};
 use std::alloc::{AllocError, Global};
@@ -26,7 +27,19 @@ pub fn is_spelled(text: &[char], word: &str) -> bool
     true
 }
 
-/// Puts the bytes of the characters into the empty vector, as far as they are of ASCII: whether all are.
+/// Whether all are of ASCII. It looks at each, which is faster than to stop at the first that isn't.
+fn are_ascii(chars: &[char]) -> bool
+    ensures { result ≡ list_all is_ascii chars.now }
+{
+    let mut plain = true;
+    for c in chars {
+        plain &= (*c as u32) < 128;
+    }
+    plain
+}
+
+/// Puts the bytes of the characters into the empty vector: whether all are of ASCII. It looks at each, which is faster than to
+/// stop at the first that isn't.
 #[tactic(auto, using(crate::proofs::Unchanged::ascii_turn))]
 fn push_ascii(bytes: &mut Vec<u8>, chars: &[char]) -> bool
     requires room { vec_len bytes.old + length chars.now ≤ vec_capacity bytes.old }
@@ -34,13 +47,13 @@ fn push_ascii(bytes: &mut Vec<u8>, chars: &[char]) -> bool
     ensures value { IsTrue result → bytes.new.items ≡ encode_utf8_all chars.now }
     ensures ascii { IsAscii bytes.new.items }
 {
+    let mut plain = true;
     for c in chars {
-        if *c as u32 >= 128 {
-            return false;
-        }
-        bytes.push_reserved(*c as u8);
+        let code = *c as u32;
+        plain &= code < 128;
+        bytes.push_reserved((code % 128) as u8);
     }
-    true
+    plain
 }
 
 /// The characters in UTF-8, where all are of ASCII.
@@ -69,13 +82,10 @@ fn spell_ascii(alloc: Global, spelling: &mut String, text: &[char]) -> Result<bo
     Ok(true)
 }
 
-/// Puts the characters in UTF-8 in the place of what the string held.
-pub fn spell(alloc: Global, spelling: &mut String, text: &[char]) -> Result<(), AllocError>
+/// Puts the characters in UTF-8 in the place of what the string held, one by one.
+fn spell_each(spelling: &mut String, text: &[char]) -> Result<(), AllocError>
     ensures { OnOk result (string_bytes spelling.new ≡ encode_utf8_all text.now) }
 {
-    if spell_ascii(alloc, spelling, text)? {
-        return Ok(());
-    }
     spelling.clear();
     for c in text {
         spelling.push(*c)?;
@@ -83,10 +93,22 @@ pub fn spell(alloc: Global, spelling: &mut String, text: &[char]) -> Result<(), 
     Ok(())
 }
 
-/// Room for the spelling of one word or text, which is kept while texts are read.
+/// Puts the characters in UTF-8 in the place of what the string held.
+pub fn spell(alloc: Global, spelling: &mut String, text: &[char]) -> Result<(), AllocError>
+    ensures { OnOk result (string_bytes spelling.new ≡ encode_utf8_all text.now) }
+{
+    if are_ascii(text) && spell_ascii(alloc, spelling, text)? {
+        return Ok(());
+    }
+    spell_each(spelling, text)
+}
+
+/// Room for the spelling of one word or text, and for what the characters of one string stand for, which is kept while texts
+/// are read.
 #[derive(Debug, Drop)]
 pub struct Spellings {
     pub room: String,
+    pub value: Vec<char>,
 }
 
 impl Spellings {
@@ -94,6 +116,7 @@ impl Spellings {
     pub fn new(alloc: Global) -> Spellings {
         Spellings {
             room: String::new(alloc),
+            value: Vec::new(alloc),
         }
     }
 
@@ -104,8 +127,10 @@ impl Spellings {
         if let Some(text) = Text::ascii(chars) {
             return Ok(text);
         }
-        if let Some(text) = ascii_text(alloc, chars)? {
-            return Text::from_string(text);
+        if are_ascii(chars) {
+            if let Some(text) = ascii_text(alloc, chars)? {
+                return Text::from_string(text);
+            }
         }
         spell(alloc, &mut self.room, chars)?;
         Text::read(alloc, self.room.as_str())

@@ -5,18 +5,19 @@ ghost use Rattle.std.specs.List.{list_any};
 ghost use Rattle.py_literals.specs.Escape.{decoded};
 ghost use Rattle.rv_names.specs.Identifier.{is_identifier_start};
 ghost use Rattle.py_lexer.specs.Front.{front_of};
-ghost use Rattle.py_lexer.specs.Strings.{quotes_len, quotes_at, unformatted, formatted, string_of, string, string_or_word};
+ghost use Rattle.py_lexer.specs.Strings.{quotes_len, quotes_at, valued, unformatted, formatted, string_of, string, string_or_word};
 
 use crate::piece::{Lexeme, Piece};
 use crate::spellings::Spellings;
 use crate::state::{Mode, State};
 use crate::token::{Kind, LexKind, Value};
 use crate::words::word;
-use py_literals::escape::{EscapeError, decode};
+use py_literals::escape::{EscapeError, decode_in};
 use py_literals::formatted::has_form;
 use py_literals::text::{Opening, StringKind, string_body, string_opening};
 use rv_names::Memory;
 use std::alloc::Global;
+use std::mem;
 
 /// How many quotes open such a string, and close it.
 pub fn quotes_len(kind: &StringKind) -> usize
@@ -52,6 +53,23 @@ fn is_plain(kind: &StringKind, body: &[char]) -> bool
     !kind.formatted && !has_backslash(body)
 }
 
+/// The string of so many characters that stands for these ones: of bytes nothing is kept.
+fn valued(
+    alloc: Global,
+    spellings: &mut Spellings,
+    opening: &Opening,
+    len: usize,
+    value: &[char],
+) -> Result<Lexeme, Memory>
+    ensures { IfOk result (λ lexeme. lexeme ≡ valued opening.now len value.now) }
+{
+    if opening.kind.bytes {
+        return Ok(Lexeme::Spelled(len, Kind::Bytes, Value::Nothing));
+    }
+    let text = spellings.text(alloc, value)?;
+    Ok(Lexeme::Spelled(len, Kind::Text, Value::Text(text)))
+}
+
 fn unformatted(
     alloc: Global,
     spellings: &mut Spellings,
@@ -66,16 +84,17 @@ fn unformatted(
         let text = spellings.text(alloc, body)?;
         return Ok(Lexeme::Spelled(len, Kind::Text, Value::Text(text)));
     }
-    match decode(alloc, &opening.kind, body) {
+    let room = mem::replace(&mut spellings.value, Vec::new(alloc));
+    match decode_in(room, &opening.kind, body) {
         Err(EscapeError::Memory) => Err(Memory),
         Err(EscapeError::Bad(offset)) => {
             let ahead = opening.len + offset.min(body.len());
             Ok(Lexeme::Refused(LexKind::BadEscape, ahead))
         }
-        Ok(_) if opening.kind.bytes => Ok(Lexeme::Spelled(len, Kind::Bytes, Value::Nothing)),
         Ok(value) => {
-            let text = spellings.text(alloc, &value)?;
-            Ok(Lexeme::Spelled(len, Kind::Text, Value::Text(text)))
+            let lexeme = valued(alloc, spellings, opening, len, &value)?;
+            spellings.value = value;
+            Ok(lexeme)
         }
     }
 }

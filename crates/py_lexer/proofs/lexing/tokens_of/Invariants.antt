@@ -1,4 +1,4 @@
-use Rattle.std.proofs.Common.{◌≡◌, ◌+◌, ◌≤◌, length}
+use Rattle.std.proofs.Common.{◌+◌, ◌≤◌, length}
 use Rattle.py_lexer.proofs.Runs.{Leads}
 use Rattle.py_lexer.proofs.Sizes.{size}
 use Rattle.py_lexer.proofs.lexing.tokens_of.Given as goal

@@ -1,10 +1,10 @@
 use Rattle.std.proofs.Common.{◌≡◌, ◌-◌, ◌∷◌, ◌∙◌, sym, length, take, drop, false, rules}
-use Rattle.py_lexer.specs.declared.chars.Class.TheVariants.{Letter, Sign, Dot}
+use Rattle.py_lexer.specs.declared.chars.Class.TheVariants.{Letter, Sign, Dot, Quote}
 use Rattle.py_lexer.specs.declared.state.Mode.TheVariants as modes
 use Rattle.py_lexer.specs.Chars.{class_of, is_digit, is_line_end}
 use Rattle.py_lexer.specs.Words.{next_is}
 use Rattle.py_lexer.specs.Quick.{has_quote_near}
-use Rattle.py_lexer.proofs.QuickLemmas.{parts_at, word_here, sign_here, dot_here, no_line_end, word_in_line, one_in_line, if_ok, pushed_at}
+use Rattle.py_lexer.proofs.QuickLemmas.{parts_at, word_here, sign_here, dot_here, no_line_end, word_in_line, one_in_line, if_ok, pushed_at, quote_says, quote_here}
 use Rattle.py_lexer.proofs.quick.push_quick.Goals as goal
 
 pub returns-else-has_quote_near-clause-some : goal.returns-else-has_quote_near-clause-some
@@ -56,3 +56,25 @@ returns-else-next_is_digit-clause-some c =
     let digit : next_is is_digit rest ≡ false = sym c.next_is_digit.ensures ∙ c.if-next_is_digit.false in
     let e = dot_here c.args.at c.args.state.now c.first-item.result rest chars parts mode class digit in
     if_ok _ _ c.push_sign-else-next_is_digit.result (λ len h l. pushed_at _ _ _ _ _ _ _ e (h l)) c.push_sign-else-next_is_digit.ensures.some
+
+pub push_string-requires : goal.push_string-requires
+push_string-requires c =
+    let class : class_of c.first-item.result ≡ Quote = sym c.class_of.ensures ∙ c.in-Quote.is in
+    quote_says c.first-item.result class
+
+pub returns-in-Quote-clause-some : goal.returns-in-Quote-clause-some
+returns-in-Quote-clause-some c =
+    let chars = c.args.chars.now in
+    let rest = take (length chars - 1) (drop 1 chars) in
+    let parts : chars ≡ c.first-item.result ∷ rest = parts_at chars c.first-item.result c.in-len1-up.len_at_least c.first-item.is in
+    let mode : c.args.state.now.mode ≡ modes.Inside = search rules in
+    let class : class_of c.first-item.result ≡ Quote = sym c.class_of.ensures ∙ c.in-Quote.is in
+    let e = quote_here c.args.at c.args.state.now c.first-item.result rest chars parts mode class in
+    if_ok _ _ c.push_string.result (λ len h l. pushed_at _ _ _ _ _ _ _ e (h l c.args.state.now)) c.push_string.ensures.some
+
+pub returns-in-Quote-clause-in_line : goal.returns-in-Quote-clause-in_line
+returns-in-Quote-clause-in_line c =
+    let chars = c.args.chars.now in
+    let rest = take (length chars - 1) (drop 1 chars) in
+    let parts : chars ≡ c.first-item.result ∷ rest = parts_at chars c.first-item.result c.in-len1-up.len_at_least c.first-item.is in
+    if_ok _ _ c.push_string.result (λ len h. rw parts h) c.push_string.ensures.in_line
