@@ -1,9 +1,10 @@
 -- The soonest of lists of faults, one after the other.
-use Rattle.std.proofs.Common.{◌≡◌, ℕ, Bool, true, false, cond, not, ◌&&◌, ◌||◌, List, [], ◌∷◌, ◌++◌, append_assoc, map, filter, Option, Some, None, ◌==◌, nat_lt, refl, sym, ap, ◌∙◌, arith}
+use Rattle.std.proofs.Common.{◌≡◌, ℕ, Bool, true, false, cond, not, ◌&&◌, ◌||◌, List, [], ◌∷◌, ◌++◌, append_assoc, map, filter, Option, Some, None, ◌==◌, nat_lt, refl, sym, subst, ap, ◌∙◌, arith}
 use Rattle.std.proofs.lemmas.Bool.Decides.{nat_tests}
 use Rattle.std.specs.Cmp.Lexicographic.{bytes_decides}
 use Rattle.std.specs.List.{flat_map, fold, list_any}
 use Rattle.std.proofs.lemmas.List.Sums.{fold-append}
+use Rattle.std.proofs.lemmas.List.Elements.{filter-append}
 use Rattle.rv_names.specs.Keys.{Bytes, bytes_equal}
 use Rattle.py_literals.specs.declared.place.Pos.{Pos}
 use Rattle.py_ast.specs.Bindings.{is_of, bindings, parameter}
@@ -84,6 +85,35 @@ fresh_once before (b ∷ bs) all e h =
 pub fresh_list : (bs : List Binding) → Fresh [] bs → bound_twice bs ≡ []
 fresh_list bs h = ap (map twice) (fresh_once [] bs bs refl h)
 
+-- of those that are methods none comes again, where none of all does
+unnamed_among : (n : Bytes) (bs : List Binding) → is_named n bs ≡ false → is_named n (filter is_method bs) ≡ false
+unnamed_among n [] e = refl
+unnamed_among n (b ∷ bs) e = by (is_of n b) (is_method b) refl e (unnamed_among n bs)
+  where
+    by : (t m : Bool) → is_of n b ≡ t → t || is_named n bs ≡ false → (is_named n bs ≡ false → is_named n (filter is_method bs) ≡ false)
+        → is_named n (cond m (b ∷ filter is_method bs) (filter is_method bs)) ≡ false
+    by true m q f more = absurd (cc f)
+    by false true q f more = ap (λ t. t || is_named n (filter is_method bs)) q ∙ more f
+    by false false q f more = more f
+
+append_none : (bs : List Binding) → bs ++ [] ≡ bs
+append_none [] = refl
+append_none (b ∷ bs) = ap (λ xs. b ∷ xs) (append_none bs)
+
+fresh_among : (before bs : List Binding) → Fresh before bs → Fresh (filter is_method before) (filter is_method bs)
+fresh_among before [] h = tt
+fresh_among before (b ∷ bs) h = by (is_method b) refl (fresh_among (before ++ b ∷ []) bs h.1)
+  where
+    put : (t : Bool) → is_method b ≡ t → Fresh (filter is_method (before ++ b ∷ [])) (filter is_method bs) → Fresh (filter is_method before ++ cond t (b ∷ []) []) (filter is_method bs)
+    put t e more = subst (λ xs. Fresh xs (filter is_method bs)) (filter-append is_method before (b ∷ []) ∙ ap (λ u. filter is_method before ++ cond u (b ∷ []) []) e) more
+
+    by : (t : Bool) → is_method b ≡ t → Fresh (filter is_method (before ++ b ∷ [])) (filter is_method bs) → Fresh (filter is_method before) (cond t (b ∷ filter is_method bs) (filter is_method bs))
+    by true e more = (unnamed_among b.name before h.0, put true e more)
+    by false e more = subst (λ xs. Fresh xs (filter is_method bs)) (append_none (filter is_method before)) (put false e more)
+
+pub fresh_methods : (bs : List Binding) → Fresh [] bs → bound_twice (filter is_method bs) ≡ []
+fresh_methods bs h = fresh_list (filter is_method bs) (fresh_among [] bs h)
+
 pub named_parameter : (n : Bytes) (ps : List Parameter) → list_any (λ p. bytes_equal p.name.name n) ps ≡ is_named n (map parameter ps)
 named_parameter n [] = refl
 named_parameter n (p ∷ ps) = ap (λ t. bytes_equal p.name.name n || t) (named_parameter n ps)
@@ -142,6 +172,16 @@ module_known m last gs locals us own none used e =
     ∙ ap (λ hs. fold sooner None (bound_twice hs ++ variable_calls (λ n. is_variable_of n hs) us)) own
     ∙ ap (λ vs. fold sooner None (bound_twice (globals m) ++ variable_calls (is_global_variable m) vs)) used
     ∙ ap (λ fs. fold sooner None (bound_twice (globals m) ++ fs)) (calls_alone (is_global_variable m) (used_in_all m.body))
+
+-- of a module's top level where nothing is called
+pub module_quiet : (m : Module) (last : Option ScopeFault) (gs : List Binding)
+    → gs ≡ globals m → calls_in (used_in_all m.body) ≡ []
+    → last ≡ fold sooner None (bound_twice gs)
+    → last ≡ fold sooner None (bound_twice (globals m) ++ variable_calls (is_global_variable m) (used_in_all m.body))
+module_quiet m last gs own quiet e =
+    e ∙ ap (λ hs. fold sooner None (bound_twice hs)) own
+    ∙ quiet_known (is_global_variable m) (fold sooner None (bound_twice (globals m))) (used_in_all m.body) quiet
+    ∙ fold_more None (bound_twice (globals m)) (variable_calls (is_global_variable m) (used_in_all m.body))
 
 -- of a class, by its methods and then by the functions in it
 pub class_known : (g : Bytes → Bool) (c : Class) (known before last : Option ScopeFault) (ss ts : List Stmt) (members methods : List Binding)

@@ -1,11 +1,11 @@
 //! Names that are bound again, and calls of variables.
 
-ghost use Rattle.std.specs.Prelude.{◌≡◌, ◌&&◌, ◌||◌, [], true, fold, option_copied, IfOk};
-ghost use Rattle.py_ast.specs.ScopeFaults.{differs, binds_again, bound_twice, is_called, variable_calls, place, sooner};
+ghost use Rattle.std.specs.Prelude.{◌≡◌, ◌&&◌, ◌||◌, [], true, filter, fold, option_copied, IfOk};
+ghost use Rattle.py_ast.specs.ScopeFaults.{differs, binds_again, bound_twice, is_called, variable_calls, is_method, place, sooner};
 ghost use Rattle.py_scopes.specs.Names.{is_named, is_variable_of};
 
 use crate::kinds::{binds, is_before, same_thing};
-use crate::scope::{FEW, Scope};
+use crate::scope::{FEW, Scope, is_named};
 use py_ast::{Binding, How, ScopeFault, Use};
 use py_lexer::Form;
 use py_literals::place::Pos;
@@ -57,19 +57,24 @@ fn binds_again(scope: &Scope, binding: &Binding) -> bool
         && scope.is_fixed(&binding.name)
 }
 
-/// Whether one of the bindings is of the name.
-fn is_named(bindings: &[Binding], name: &Name) -> bool
-    ensures { result ≡ is_named name.now bindings.now }
-{
-    bindings.iter().any(|binding| binding.name == *name)
-}
-
 /// Whether no name comes again, where a comparison for each pair of bindings costs less than to ask for each name.
 fn are_apart(bindings: &[Binding]) -> bool
     ensures { result ≡ true → bound_twice bindings.now ≡ [] }
 {
     for (place, binding) in bindings.iter().enumerate() {
         if is_named(&bindings[..place], &binding.name) {
+            return false;
+        }
+    }
+    true
+}
+
+/// Whether no two methods among the members have one name, where no two members have.
+pub fn methods_are_apart(members: &[Binding]) -> bool
+    ensures { result ≡ true → bound_twice (filter is_method members.now) ≡ [] }
+{
+    for (place, binding) in members.iter().enumerate() {
+        if is_named(&members[..place], &binding.name) {
             return false;
         }
     }

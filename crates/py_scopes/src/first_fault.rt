@@ -1,22 +1,37 @@
 //! The fault of a module's names alone, for which no scope of a function is kept.
 
-ghost use Rattle.std.specs.Prelude.{◌≡◌, ◌||◌, [], true, map, IfOk, IfErr, OnOk};
+ghost use Rattle.std.specs.Prelude.{◌≡◌, ◌||◌, [], true, filter, map, IfOk, IfErr, OnOk};
 ghost use Rattle.std.specs.List.{flat_map, fold, list_any};
 ghost use Rattle.rv_names.specs.Keys.{bytes_equal};
 ghost use Rattle.py_ast.specs.Bindings.{parameter};
-ghost use Rattle.py_ast.specs.ScopeFaults.{sooner, bound_twice, variable_calls, locals, functions, classes, used_in_body, function_faults, class_faults, scope_fault, HasNoScopeFault};
+ghost use Rattle.py_ast.specs.ScopeFaults.{sooner, bound_twice, variable_calls, locals, is_method, functions, classes, used_in_body, function_faults, class_faults, scope_fault, HasNoScopeFault};
 ghost use Rattle.py_scopes.specs.Names.{is_named, is_variable_of};
 ghost use Rattle.py_scopes.specs.Scopes.{IsFaultOf};
 
 use crate::error::ScopeError;
-use crate::faults::{bound_twice, variable_calls};
+use crate::faults::{bound_twice, methods_are_apart, variable_calls};
 use crate::module::{
     bindings_of, calls_of, locals_of, methods_of, module_fault, parameters_of, scope_of,
 };
 use crate::scope::{FEW, Scope};
-use py_ast::{Class, Function, Module, Parameter, ScopeFault, Stmt, StmtForm};
+use py_ast::{Binding, Class, Function, Module, Parameter, ScopeFault, Stmt, StmtForm, Use};
 use rv_names::{Memory, Name};
 use std::alloc::Global;
+
+/// The sooner of what is known and of those of the calls in a function that are of variables.
+#[inline(never)]
+fn known_call_fault(
+    alloc: Global,
+    function: &Function,
+    calls: &[Use],
+    globals: &Scope,
+    known: Option<ScopeFault>,
+) -> Result<Option<ScopeFault>, Memory>
+    ensures { IfOk result (λ f. f ≡ fold sooner known (variable_calls (λ n. is_named n (locals function.now) || is_variable_of n globals.now) calls.now)) }
+{
+    let locals = locals_of(alloc, function)?;
+    Ok(variable_calls(calls, &locals, globals, known))
+}
 
 /// The sooner of what is known and of the calls of variables in a function. Where it calls no name, its locals aren't asked.
 fn call_fault(
@@ -31,8 +46,7 @@ fn call_fault(
     if calls.is_empty() {
         return Ok(known);
     }
-    let locals = locals_of(alloc, function)?;
-    Ok(variable_calls(calls.as_slice(), &locals, globals, known))
+    known_call_fault(alloc, function, calls.as_slice(), globals, known)
 }
 
 fn has_name(items: &[Parameter], name: &Name) -> bool
@@ -60,6 +74,20 @@ fn are_apart(items: &[Parameter]) -> bool
     true
 }
 
+/// The sooner of what is known and of the parameters of one name, by a list of their bindings.
+#[cold]
+#[inline(never)]
+fn all_parameters_fault(
+    alloc: Global,
+    items: &[Parameter],
+    known: Option<ScopeFault>,
+) -> Result<Option<ScopeFault>, Memory>
+    ensures { IfOk result (λ f. f ≡ fold sooner known (bound_twice (map parameter items.now))) }
+{
+    let parameters = parameters_of(alloc, items)?;
+    bound_twice(&parameters, known)
+}
+
 /// The sooner of what is known and of the parameters of one name. Where few have none, no list of bindings is made.
 fn parameters_fault(
     alloc: Global,
@@ -71,8 +99,7 @@ fn parameters_fault(
     if items.len() <= FEW && are_apart(items) {
         return Ok(known);
     }
-    let parameters = parameters_of(alloc, items)?;
-    bound_twice(&parameters, known)
+    all_parameters_fault(alloc, items, known)
 }
 
 /// The sooner of what is known and of the faults of a function.
@@ -106,7 +133,36 @@ fn functions_fault(
     Ok(fault)
 }
 
+/// The sooner of what is known and of the methods of one name, by a list of their bindings.
+#[cold]
+#[inline(never)]
+fn all_methods_fault(
+    alloc: Global,
+    members: &[Binding],
+    known: Option<ScopeFault>,
+) -> Result<Option<ScopeFault>, Memory>
+    ensures { IfOk result (λ f. f ≡ fold sooner known (bound_twice (filter is_method members.now))) }
+{
+    let methods = methods_of(alloc, members)?;
+    bound_twice(&methods, known)
+}
+
+/// The sooner of what is known and of the methods of one name. Where few members have none, no list of the methods is made.
+fn methods_fault(
+    alloc: Global,
+    members: &[Binding],
+    known: Option<ScopeFault>,
+) -> Result<Option<ScopeFault>, Memory>
+    ensures { IfOk result (λ f. f ≡ fold sooner known (bound_twice (filter is_method members.now))) }
+{
+    if members.len() <= FEW && methods_are_apart(members) {
+        return Ok(known);
+    }
+    all_methods_fault(alloc, members, known)
+}
+
 /// The sooner of what is known and of the faults of a class.
+#[inline(never)]
 fn class_fault(
     alloc: Global,
     class: &Class,
@@ -117,7 +173,7 @@ fn class_fault(
 {
     let stmts = class.body.as_slice();
     let members = bindings_of(alloc, stmts)?;
-    let known = bound_twice(&methods_of(alloc, members.as_slice())?, known)?;
+    let known = methods_fault(alloc, members.as_slice(), known)?;
     functions_fault(alloc, stmts, globals, known)
 }
 

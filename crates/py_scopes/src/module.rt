@@ -264,6 +264,9 @@ pub fn module_fault(
     ensures { IfOk result (λ f. f ≡ fold sooner None (bound_twice (globals tree.now) ++ variable_calls (is_global_variable tree.now) (used_in_all tree.now.body))) }
 {
     let calls = calls_of(alloc, tree.body.as_slice())?;
+    if calls.is_empty() {
+        return bound_twice(variables, None);
+    }
     let locals = Scope::new(alloc, Items::new(alloc))?;
     body_fault(variables, &locals, calls.as_slice(), variables, None)
 }

@@ -9,6 +9,7 @@ ghost use Rattle.py_scopes.specs.Facts.{known, told, or_look, alone};
 ghost use Rattle.py_scopes.specs.Names.{is_named, is_variable_of, only_binding, only_annotation};
 
 use crate::facts::{Facts, Seen};
+use crate::kinds::is_variable;
 use indexmap::IndexMap;
 use py_ast::Binding;
 use rv_names::{Memory, Name};
@@ -35,11 +36,25 @@ impl Model for Scope {
 
     ghost view = { λ s. s.bindings };
 
-    ghost invariant = { λ s. 8 < length s.bindings → (n : Bytes) → get bytes_equal s.names n ≡ told n 0 None s.bindings };
+    ghost invariant = { λ s. 16 < length s.bindings → (n : Bytes) → get bytes_equal s.names n ≡ told n 0 None s.bindings };
 }
 
 /// Up to so many bindings a list is searched sooner than a table is made.
-pub const FEW: usize = 8;
+pub const FEW: usize = 16;
+
+/// Whether one of the bindings is of the name. Linear in them.
+pub fn is_named(bindings: &[Binding], name: &Name) -> bool
+    ensures { result ≡ is_named name.now bindings.now }
+{
+    bindings.iter().any(|binding| binding.name == *name)
+}
+
+/// Whether one of them makes the name a variable. Linear in them.
+fn is_variable_among(bindings: &[Binding], name: &Name) -> bool
+    ensures { result ≡ is_variable_of name.now bindings.now }
+{
+    bindings.iter().any(|binding| binding.name == *name && is_variable(&binding.kind))
+}
 
 /// What the list says of the name. Linear in it.
 fn searched(bindings: &[Binding], name: &Name) -> Facts
@@ -65,6 +80,7 @@ fn known(names: &IndexMap<Name, Facts>, name: &Name) -> Facts
 }
 
 /// What the list says of each name. Linear in it.
+#[inline(never)]
 fn table(alloc: Global, bindings: &[Binding]) -> Result<IndexMap<Name, Facts>, Memory>
     ensures { IfOk result (λ m. (n : Bytes) → get bytes_equal m n ≡ told n 0 None bindings.now) }
 {
@@ -78,6 +94,7 @@ fn table(alloc: Global, bindings: &[Binding]) -> Result<IndexMap<Name, Facts>, M
 
 impl Scope {
     /// The scope of these bindings. Linear in them.
+    #[inline(always)]
     pub fn new(alloc: Global, bindings: Items<Binding>) -> Result<Scope, Memory>
         ensures { IfOk result (λ s. s ≡ bindings) }
     {
@@ -133,6 +150,9 @@ impl Scope {
     pub fn has(&self, name: &Name) -> bool
         ensures { result ≡ is_named name.now self.now }
     {
+        if self.bindings.len() <= FEW {
+            return is_named(self.bindings.as_slice(), name);
+        }
         self.facts(name).named
     }
 
@@ -149,6 +169,9 @@ impl Scope {
     pub fn is_variable(&self, name: &Name) -> bool
         ensures { result ≡ is_variable_of name.now self.now }
     {
+        if self.bindings.len() <= FEW {
+            return is_variable_among(self.bindings.as_slice(), name);
+        }
         self.facts(name).variable
     }
 

@@ -90,14 +90,21 @@ fn name(
     Ok(())
 }
 
+/// Whether the form of the expression, itself being used so, tells that it has no wanted uses.
+#[inline(always)]
+fn is_quiet(expr: &Expr, how: How, wanted: Wanted) -> bool
+    ensures { result ≡ true → filter (is_wanted wanted) (used_in expr.now how) ≡ [] }
+{
+    match &expr.form {
+        Form::Name(_) => !wanted.has(how),
+        Form::Number(_) | Form::Text(_) | Form::Constant(_) => true,
+        _ => false,
+    }
+}
+
 /// Adds the wanted uses of names in the expression, itself being used so. Only what nests in the expression recurses.
 #[cycle(uses)]
-pub fn expression(
-    expr: &Expr,
-    how: How,
-    wanted: Wanted,
-    found: &mut Items<Use>,
-) -> Result<(), Memory>
+fn nested(expr: &Expr, how: How, wanted: Wanted, found: &mut Items<Use>) -> Result<(), Memory>
     ensures { OnOk result (found.new ≡ found.old ++ filter (is_wanted wanted) (used_in expr.now how)) }
 {
     match &expr.form {
@@ -107,31 +114,31 @@ pub fn expression(
         Form::Tuple(items) | Form::List(items) => expressions(items.as_slice(), wanted, found),
         Form::Dictionary(items) => pairs(items.as_slice(), wanted, found),
         Form::Conditional(value, condition, otherwise) => {
-            expression(value.get(), How::Other, wanted, found)?;
-            expression(condition.get(), How::Other, wanted, found)?;
-            expression(otherwise.get(), How::Other, wanted, found)
+            nested(value.get(), How::Other, wanted, found)?;
+            nested(condition.get(), How::Other, wanted, found)?;
+            nested(otherwise.get(), How::Other, wanted, found)
         }
         Form::Or(first, others) | Form::And(first, others) => {
-            expression(first.get(), How::Other, wanted, found)?;
+            nested(first.get(), How::Other, wanted, found)?;
             joined(others.as_slice(), wanted, found)
         }
         Form::Not(operand) | Form::Unary(_, operand) => {
-            expression(operand.get(), How::Other, wanted, found)
+            nested(operand.get(), How::Other, wanted, found)
         }
         Form::Comparison(first, others) => {
-            expression(first.get(), How::Other, wanted, found)?;
+            nested(first.get(), How::Other, wanted, found)?;
             compared(others.as_slice(), wanted, found)
         }
         Form::Binary(first, others) => {
-            expression(first.get(), How::Other, wanted, found)?;
+            nested(first.get(), How::Other, wanted, found)?;
             operands(others.as_slice(), wanted, found)
         }
         Form::Power(base, exponent) => {
-            expression(base.get(), How::Other, wanted, found)?;
-            expression(exponent.get(), How::Other, wanted, found)
+            nested(base.get(), How::Other, wanted, found)?;
+            nested(exponent.get(), How::Other, wanted, found)
         }
         Form::Postfix(base, links) => {
-            expression(
+            nested(
                 base.get(),
                 chained_how(how, links.as_slice()),
                 wanted,
@@ -142,12 +149,30 @@ pub fn expression(
     }
 }
 
+/// Adds the wanted uses of names in the expression, itself being used so.
+#[inline(always)]
+pub fn expression(
+    expr: &Expr,
+    how: How,
+    wanted: Wanted,
+    found: &mut Items<Use>,
+) -> Result<(), Memory>
+    ensures { OnOk result (found.new ≡ found.old ++ filter (is_wanted wanted) (used_in expr.now how)) }
+{
+    if is_quiet(expr, how, wanted) {
+        return Ok(());
+    }
+    nested(expr, how, wanted, found)
+}
+
 #[cycle(uses)]
 fn expressions(exprs: &[Expr], wanted: Wanted, found: &mut Items<Use>) -> Result<(), Memory>
     ensures { OnOk result (found.new ≡ found.old ++ filter (is_wanted wanted) (flat_map as_other (map used_in exprs.now))) }
 {
     for expr in exprs {
-        expression(expr, How::Other, wanted, found)?;
+        if !is_quiet(expr, How::Other, wanted) {
+            nested(expr, How::Other, wanted, found)?;
+        }
     }
     Ok(())
 }
@@ -158,7 +183,7 @@ fn parts(items: &[Part], wanted: Wanted, found: &mut Items<Use>) -> Result<(), M
 {
     for item in items {
         if let Part::Field(expr) = item {
-            expression(expr, How::Other, wanted, found)?;
+            nested(expr, How::Other, wanted, found)?;
         }
     }
     Ok(())
@@ -169,8 +194,8 @@ fn pairs(items: &[Pair], wanted: Wanted, found: &mut Items<Use>) -> Result<(), M
     ensures { OnOk result (found.new ≡ found.old ++ filter (is_wanted wanted) (together (map used_in_pair items.now))) }
 {
     for item in items {
-        expression(&item.key, How::Other, wanted, found)?;
-        expression(&item.value, How::Other, wanted, found)?;
+        nested(&item.key, How::Other, wanted, found)?;
+        nested(&item.value, How::Other, wanted, found)?;
     }
     Ok(())
 }
@@ -180,7 +205,7 @@ fn joined(items: &[Joined], wanted: Wanted, found: &mut Items<Use>) -> Result<()
     ensures { OnOk result (found.new ≡ found.old ++ filter (is_wanted wanted) (together (map used_in_joined items.now))) }
 {
     for item in items {
-        expression(&item.value, How::Other, wanted, found)?;
+        nested(&item.value, How::Other, wanted, found)?;
     }
     Ok(())
 }
@@ -190,7 +215,7 @@ fn compared(items: &[Compared], wanted: Wanted, found: &mut Items<Use>) -> Resul
     ensures { OnOk result (found.new ≡ found.old ++ filter (is_wanted wanted) (together (map used_in_compared items.now))) }
 {
     for item in items {
-        expression(&item.value, How::Other, wanted, found)?;
+        nested(&item.value, How::Other, wanted, found)?;
     }
     Ok(())
 }
@@ -200,7 +225,7 @@ fn operands(items: &[Operand], wanted: Wanted, found: &mut Items<Use>) -> Result
     ensures { OnOk result (found.new ≡ found.old ++ filter (is_wanted wanted) (together (map used_in_operand items.now))) }
 {
     for item in items {
-        expression(&item.value, How::Other, wanted, found)?;
+        nested(&item.value, How::Other, wanted, found)?;
     }
     Ok(())
 }
@@ -210,7 +235,9 @@ fn arguments(items: &[Argument], wanted: Wanted, found: &mut Items<Use>) -> Resu
     ensures { OnOk result (found.new ≡ found.old ++ filter (is_wanted wanted) (together (map used_in_argument items.now))) }
 {
     for item in items {
-        expression(&item.value, How::Other, wanted, found)?;
+        if !is_quiet(&item.value, How::Other, wanted) {
+            nested(&item.value, How::Other, wanted, found)?;
+        }
     }
     Ok(())
 }
@@ -232,7 +259,7 @@ fn step(step: &Step, wanted: Wanted, found: &mut Items<Use>) -> Result<(), Memor
 {
     match &step.form {
         StepForm::Attribute(_) => Ok(()),
-        StepForm::Subscript(index) => expression(index.get(), How::Other, wanted, found),
+        StepForm::Subscript(index) => nested(index.get(), How::Other, wanted, found),
         StepForm::Call(given) => arguments(given.as_slice(), wanted, found),
     }
 }

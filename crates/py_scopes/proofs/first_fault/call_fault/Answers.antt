@@ -1,4 +1,5 @@
 use Rattle.std.proofs.Common.{◌||◌, filter, refl, sym, ap, ◌∙◌}
+use Rattle.std.proofs.lemmas.Result.{IfOk-weaker}
 use Rattle.py_ast.specs.ScopeFaults.{locals, used_in_body}
 use Rattle.py_ast.specs.Uses.{used_in_all}
 use Rattle.py_scopes.specs.Listed.{is_wanted}
@@ -14,5 +15,5 @@ returns-then-is_empty c =
 
 pub returns : goal.returns
 returns c =
-    call_known (λ n. is_variable_of n c.args.globals.now) c.args.function.now c.args.known c.variable_calls.result c.in_ok-locals.locals c.as_slice-2.result.now
-    c.in_ok-locals.ensures (c.as_slice-2.ensures ∙ c.in_ok-calls.ensures ∙ ap (λ ss. filter (is_wanted Calls) (used_in_all ss)) c.as_slice.ensures) c.variable_calls.ensures
+    IfOk-weaker c.known_call_fault.result _ _ (λ f h. call_known (λ n. is_variable_of n c.args.globals.now) c.args.function.now c.args.known f (locals c.args.function.now) c.as_slice-2.result.now
+    refl (c.as_slice-2.ensures ∙ c.in_ok-calls.ensures ∙ ap (λ ss. filter (is_wanted Calls) (used_in_all ss)) c.as_slice.ensures) h) c.known_call_fault.ensures
