@@ -1,22 +1,24 @@
 -- What ends with its first operand: primaries, powers, lists and arguments behind which nothing goes on, and an expression of one token.
 use Rattle.std.proofs.Common.{◌≡◌, ℕ, Bool, true, false, List, [], ◌∷◌, drop, Option, Some, None, refl, sym, ◌∙◌}
 use Rattle.phrases.specs.Sets.{starts, apart}
-use Rattle.phrases.specs.Reading.{Outcome, Read, Stuck}
+use Rattle.phrases.specs.Reading.{Outcome, Read, Stuck, read_many}
 use Rattle.phrases.specs.Series.{read_run}
-use Rattle.phrases.specs.Phrases.{Phrase, token, sequence}
+use Rattle.phrases.specs.Phrases.{Phrase, token, sequence, many}
 use Rattle.phrases.specs.Loops.{Fails}
 use Rattle.phrases.specs.declared.fault.Fault.{Fault}
 use Rattle.phrases.specs.declared.fault.Stop.{Stop}
 use Rattle.phrases.specs.declared.fault.Stop.TheVariants as reasons
-use Rattle.phrases.proofs.Sets.{apart_has, has_left}
+use Rattle.phrases.proofs.Sets.{apart_has, has_left, has_in_left}
+use Rattle.py_literals.specs.declared.place.Pos.{Pos}
 use Rattle.py_lexer.specs.declared.token.Token.{Token}
 use Rattle.py_ast.specs.declared.tree.Expr.{Expr}
 use Rattle.py_ast.specs.declared.tree.NameAt.{NameAt}
+use Rattle.py_ast.specs.declared.tree.Piece.{Piece}
 use Rattle.py_ast.specs.Kinds.{class}
-use Rattle.py_ast.specs.Tokens.{leaf_codes, leaf_of, unary_codes, level_codes}
-use Rattle.py_ast.specs.Trees.{is_callee, postfix_of, power_of}
-use Rattle.py_ast.specs.Grammar.{Inversion, Factor, shaped, nested, Whole, expr, binary, comparison_first, comparison, after_argument, step_first, step_next, step, chain, atom, primary, exponent, power, factor_over, inversion_over, comma_first, expr_first, comma_item, comma_items, goes_past, both, mapped, items, exprs}
-use Rattle.py_ast.proofs.TokenLaws.{leaf-kind}
+use Rattle.py_ast.specs.Tokens.{leaf_codes, leaf_of, text_of, unary_codes, level_codes}
+use Rattle.py_ast.specs.Trees.{is_callee, postfix_of, power_of, strings_of}
+use Rattle.py_ast.specs.Grammar.{Inversion, Factor, shaped, nested, Whole, expr, binary, comparison_first, comparison, after_argument, step_first, step_next, step, chain, string_first, piece, strings, atom, primary, exponent, power, factor_over, inversion_over, comma_first, expr_first, comma_item, comma_items, goes_past, both, mapped, items, exprs}
+use Rattle.py_ast.proofs.TokenLaws.{leaf-kind, text-kind}
 use Rattle.py_expr.proofs.Nestings.{inversion_is, factor_is}
 use Rattle.py_expr.proofs.Alone.{binary_fails, comparison_alone, comparison_fails, disjunction_fails, expr_alone, expr_fails}
 
@@ -170,3 +172,52 @@ expr_leaf room (t ∷ y) h e = by (leaf_of t) refl
     by : (o : Option Expr) → leaf_of t ≡ o → (expr room).read (t ∷ y) ≡ (token leaf_of).read (t ∷ y)
     by None k = absurd (leaf-kind.only t h k)
     by (Some v) k = let r : (token leaf_of).read (t ∷ y) ≡ Read v y = rw k refl in leaf-read room (t ∷ y) v y h r e ∙ sym r
+
+-- ---- a string alone
+
+-- where no phrase begins, none is read
+no-many : {A : Type 0} (first : List ℕ) (p : List Token → Outcome Token A) (y : List Token) → starts class first y ≡ false → read_many class first p y ≡ Read [] y
+no-many first p [] e = refl
+no-many first p (t ∷ y) e = rw e refl
+
+mapped-read : {A B : Type 0} (g : Phrase Token A) (f : A → B) (ts : List Token) (a : A) (y : List Token) → g.read ts ≡ Read a y → (mapped g f).read ts ≡ Read (f a) y
+unfolding mapped
+mapped-read g f ts a y h = rw h refl
+
+-- a text is a string, and begins nothing else
+text-string : (ts : List Token) → starts class (4 ∷ []) ts ≡ true → starts class string_first ts ≡ true
+text-string [] h = h
+text-string (t ∷ ts) h = has_in_left (4 ∷ []) (10 ∷ []) (class t) h
+
+text-only : (s : List ℕ) (ts : List Token) → apart (4 ∷ []) s ≡ true → starts class (4 ∷ []) ts ≡ true → starts class s ts ≡ false
+text-only s [] e h = refl
+text-only s (t ∷ ts) e h = apart_has (4 ∷ []) s (class t) e h
+
+piece-text : (room : ℕ) (e : Phrase Token Expr) (ts : List Token) → starts class (4 ∷ []) ts ≡ true → (piece room e).read ts ≡ (token text_of).read ts
+unfolding piece
+piece-text room e ts h = rw h refl
+
+strings-alone : (room : ℕ) (e : Phrase Token Expr) (ts : List Token) (p : Pos × Piece) (y : List Token) → (piece room e).read ts ≡ Read p y → starts class string_first y ≡ false → (strings room e).read ts ≡ Read (strings_of p []) y
+unfolding strings
+strings-alone room e ts p y h k = both-read (piece room e) (λ a. many class string_first (piece room e)) strings_of ts p y [] y h (no-many string_first (piece room e).read y k)
+
+atom-string : (room : ℕ) (e : Phrase Token Expr) (ts : List Token) → starts class leaf_codes ts ≡ false → starts class string_first ts ≡ true → (atom room e).read ts ≡ (strings room e).read ts
+unfolding atom
+atom-string room e ts n h = rw (n, h) refl
+
+text-read : (room : ℕ) (ts : List Token) (p : Pos × Piece) (y : List Token) → starts class (4 ∷ []) ts ≡ true → (token text_of).read ts ≡ Read p y → starts class string_first y ≡ false → Ends y → (expr room).read ts ≡ Read (strings_of p []) y
+text-read room ts p y h r s e =
+    let q : (piece room (nested room Whole)).read ts ≡ Read p y = piece-text room (nested room Whole) ts h ∙ r in
+    let a : (atom room (nested room Whole)).read ts ≡ Read (strings_of p []) y = atom-string room (nested room Whole) ts (text-only leaf_codes ts refl h) (text-string ts h) ∙ strings-alone room (nested room Whole) ts p y q s in
+    let w : (primary room (nested room Whole)).read ts ≡ Read (strings_of p []) y = primary_alone room (nested room Whole) ts (strings_of p []) y a e.step in
+    expr_primary room ts (strings_of p []) y (text-only unary_codes ts refl h) (text-only (41 ∷ []) ts refl h) w e.exponent e.binary e.comparison e.conjunction e.disjunction e.choice
+
+pub expr_text : (room : ℕ) (ts : List Token) → starts class (4 ∷ []) ts ≡ true → starts class string_first (drop 1 ts) ≡ false → Ends (drop 1 ts) → (expr room).read ts ≡ (mapped (token text_of) (λ p. strings_of p [])).read ts
+expr_text room [] h s e = absurd cc
+expr_text room (t ∷ y) h s e = by (text_of t) refl
+  where
+    by : (o : Option (Pos × Piece)) → text_of t ≡ o → (expr room).read (t ∷ y) ≡ (mapped (token text_of) (λ p. strings_of p [])).read (t ∷ y)
+    by None k = absurd (text-kind.only t h k)
+    by (Some p) k =
+        let r : (token text_of).read (t ∷ y) ≡ Read p y = rw k refl in
+        text-read room (t ∷ y) p y h r s e ∙ sym (mapped-read (token text_of) (λ q. strings_of q []) (t ∷ y) p y r)

@@ -1,22 +1,23 @@
 //! Atoms (Language Reference, 6.2), over a function that reads one expression inside of brackets.
 
-ghost use Rattle.std.specs.Prelude.{◌≡◌, ◌<◌, ◌≤◌, ◌∷◌, [], ℕ, List, Option, Some, None, IfOk, length};
-ghost use Rattle.phrases.specs.Sets.{has};
+ghost use Rattle.std.specs.Prelude.{◌≡◌, ◌<◌, ◌≤◌, ◌∷◌, [], ℕ, List, Option, Some, None, IfOk, length, false};
+ghost use Rattle.phrases.specs.Sets.{has, starts};
 ghost use Rattle.phrases.specs.Reading.{Read};
 ghost use Rattle.phrases.specs.Phrases.{many, token, nothing, sequence, either};
 ghost use Rattle.phrases.specs.Loops.{Gives};
 ghost use Rattle.py_ast.specs.Kinds.{class, mark_of};
+ghost use Rattle.py_ast.specs.Tokens.{leaf_codes};
 ghost use Rattle.py_ast.specs.Grammar.{mapped, ended, second, string_first, expr_first, part_first, comma_item, comma_items, goes_past, part, piece, strings, parenthesized, list, pair, pairs, dictionary, atom, Whole, nested};
 ghost use Rattle.py_expr.specs.Readers.{ReadsSome};
 
 use crate::build::{as_items, as_parenthesized};
 use crate::class::{
     COLON, COMMA, F_STRING_END, F_STRING_START, F_STRING_TEXT, FIELD_CLOSE, FIELD_OPEN, LEFT_BRACE,
-    LEFT_BRACKET, LEFT_PAREN, RIGHT_BRACE, RIGHT_BRACKET, RIGHT_PAREN, TEXT, begins_leaf,
-    begins_part, begins_string, class_of,
+    LEFT_BRACKET, LEFT_PAREN, RIGHT_BRACE, RIGHT_BRACKET, RIGHT_PAREN, TEXT, begins_part,
+    begins_string, class_of,
 };
 use crate::inner::{closed_items_by, nested_by};
-use crate::parts::stands_expr;
+use crate::parts::{stands_expr, stands_leaf};
 use crate::strings::as_strings;
 use crate::token::{Taken, leaf_here, make_leaf, mark, open, part_text_token, stands, text_token};
 use phrases::{Stop, many, series};
@@ -27,7 +28,7 @@ use rv_names::Memory;
 use sqlite_items::Items;
 use std::alloc::Global;
 
-/// An atom.
+/// An atom. Most are one token.
 #[tactic(auto, unfolding(py_ast::specs::Grammar::atom))]
 pub fn atom_by<'a, F>(alloc: Global, tokens: &'a [Token], room: u8, inner: &F) -> Taken<'a, Expr>
 where
@@ -37,14 +38,31 @@ where
     ensures read { Gives (λ x. Read x.0 x.1.now) result ((atom room (nested room Whole)).read tokens.now) }
     ensures shorter { IfOk result (λ x. length x.1.now < length tokens.now) }
 {
+    if stands_leaf(tokens) {
+        return leaf_here(tokens);
+    }
+    let (value, rest) = longer_atom_by(alloc, tokens, room, inner)?;
+    Ok((value, rest))
+}
+
+/// An atom that isn't one token.
+#[inline(never)]
+#[tactic(auto, unfolding(py_ast::specs::Grammar::atom))]
+fn longer_atom_by<'a, F>(alloc: Global, tokens: &'a [Token], room: u8, inner: &F) -> Taken<'a, Expr>
+where
+    F: Fn(&[Token]) -> Taken<'_, Expr>,
+    requires can_call { F.IsAlwaysCallable inner.now }
+    requires reads { ReadsSome (λ ts r. F.post inner.now ts r) (nested room Whole).read }
+    requires longer { starts class leaf_codes tokens.now ≡ false }
+    ensures read { Gives (λ x. Read x.0 x.1.now) result ((atom room (nested room Whole)).read tokens.now) }
+    ensures shorter { IfOk result (λ x. length x.1.now < length tokens.now) }
+{
     match tokens {
         // Without a token the last alternative tells the fault.
         [] => dictionary_by(alloc, tokens, room, inner),
         [first, ..] => {
             let code = class_of(first);
-            if begins_leaf(code) {
-                leaf_here(tokens)
-            } else if begins_string(code) {
+            if begins_string(code) {
                 strings_by(alloc, tokens, room, inner)
             } else if code == LEFT_PAREN {
                 parenthesized_by(alloc, tokens, room, inner)

@@ -154,6 +154,7 @@ fn part_text_class(value: &Value) -> u8
 }
 
 /// The class of an operator or a delimiter.
+#[inline(always)]
 fn operator_code(kind: Kind) -> u8
     requires { 49 < code kind }
     ensures { result ≡ code kind }
@@ -211,6 +212,7 @@ fn operator_code(kind: Kind) -> u8
 }
 
 /// The class of a token of this kind where the kind alone makes it, and else 0.
+#[inline(always)]
 pub fn code_of(kind: Kind) -> u8
     ensures { result ≡ code kind }
 {
@@ -281,13 +283,59 @@ fn value_class(token: &Token) -> u8
     }
 }
 
-/// The class of a token.
+/// The class of a token. Names and texts, which are most tokens whose value has a part in it, are told first.
+#[inline(always)]
 #[tactic(auto, using(crate::proofs::Marks::class_is))]
 pub fn class_of(token: &Token) -> u8
     ensures { result ≡ class token.now }
 {
+    match token.kind {
+        Kind::Name => name_class(&token.value),
+        Kind::Text => text_class(&token.value),
+        _ => other_class(token),
+    }
+}
+
+/// The class of a token, whatever its kind.
+#[tactic(auto, using(crate::proofs::Marks::class_is))]
+fn other_class(token: &Token) -> u8
+    ensures { result ≡ class token.now }
+{
     let own = code_of(token.kind);
     if own == 0 { value_class(token) } else { own }
+}
+
+/// Whether the token is a name, `super` among them. The name itself isn't looked at.
+#[inline(always)]
+pub fn is_name(token: &Token) -> bool
+    ensures { result ≡ has name_codes (class token.now) }
+{
+    match token.kind {
+        Kind::Name => matches!(token.value, Value::Name(_)),
+        _ => false,
+    }
+}
+
+/// Whether the token is the name `super`.
+#[inline(always)]
+pub fn is_super(token: &Token) -> bool
+    ensures { result ≡ has (2 ∷ []) (class token.now) }
+{
+    match token.kind {
+        Kind::Name => name_class(&token.value) == SUPER,
+        _ => false,
+    }
+}
+
+/// Whether the token is a text.
+#[inline(always)]
+pub fn is_text(token: &Token) -> bool
+    ensures { result ≡ has (4 ∷ []) (class token.now) }
+{
+    match token.kind {
+        Kind::Text => matches!(token.value, Value::Text(_)),
+        _ => false,
+    }
 }
 
 /// Whether the class is that of an atom of one token.
@@ -342,10 +390,15 @@ pub fn begins_factor(class: u8) -> bool
 }
 
 /// Whether the class begins an expression.
+#[inline(always)]
 pub fn begins_expr(class: u8) -> bool
     ensures { result ≡ has expr_first class }
 {
-    class == NOT || begins_factor(class)
+    match class {
+        NAME | NUMBER | TEXT | F_STRING_START | FALSE | NONE | TRUE | ELLIPSIS => true,
+        NOT | PLUS | MINUS | TILDE | LEFT_PAREN | LEFT_BRACKET | LEFT_BRACE => true,
+        _ => false,
+    }
 }
 
 /// Whether the class is that of a comparison of one token.

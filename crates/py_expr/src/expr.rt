@@ -22,9 +22,11 @@ use crate::inner::exprs_by;
 use crate::logic::disjunction_by;
 use crate::operator::comparison_by;
 use crate::parts::{
-    stands_alone, stands_logic, stands_operator, stands_prefix, stands_unary, stands_wider,
+    stands_alone, stands_logic, stands_operator, stands_prefix, stands_text_alone, stands_unary,
+    stands_wider,
 };
 use crate::primary::primary_by;
+use crate::strings::text_here;
 use crate::token::{Taken, leaf_here, make_leaf, mark, open, open_unary, stands};
 use phrases::{Fault, Stop};
 use py_ast::{Expr, Form};
@@ -35,17 +37,19 @@ use std::alloc::Global;
 
 /// The longest expression at the front of the tokens, with room for so many nestings, one in another.
 ///
-/// Most are one token, which the token behind it tells. Linear in the tokens that it takes.
+/// Most are one token, an atom or a string, which the token behind it tells. Linear in the tokens that it takes.
 #[cycle(expr)]
 pub fn expr_of(alloc: Global, tokens: &[Token], room: u8) -> Taken<'_, Expr>
     ensures read { Gives (λ x. Read x.0 x.1.now) result ((expr room).read tokens.now) }
     ensures shorter { IfOk result (λ x. length x.1.now < length tokens.now) }
 {
     if stands_alone(tokens) {
-        leaf_here(tokens)
-    } else {
-        whole_of(alloc, tokens, room)
+        return leaf_here(tokens);
     }
+    if stands_text_alone(tokens) {
+        return text_here(tokens);
+    }
+    whole_of(alloc, tokens, room)
 }
 
 /// An expression, whatever stands behind its first token.

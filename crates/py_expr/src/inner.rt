@@ -49,7 +49,8 @@ where
     if !stands(rest, COMMA) {
         return Ok((first, rest));
     }
-    exprs_from(alloc, first, rest, room, inner)
+    let (value, rest) = exprs_from(alloc, first, rest, room, inner)?;
+    Ok((value, rest))
 }
 
 /// Expressions between commas, where the first was read and the tokens begin behind it.

@@ -6,11 +6,12 @@ ghost use Rattle.phrases.specs.Reading.{Read};
 ghost use Rattle.phrases.specs.Loops.{Gives};
 ghost use Rattle.py_ast.specs.Kinds.{class};
 ghost use Rattle.py_ast.specs.Tokens.{leaf_codes, unary_codes, level_codes};
-ghost use Rattle.py_ast.specs.Grammar.{expr_first, step_first, argument_first, comparison_first, attribute, after_is, comparator};
+ghost use Rattle.py_ast.specs.Grammar.{expr_first, string_first, step_first, argument_first, comparison_first, attribute, after_is, comparator};
 
 use crate::class::{
-    DOT, IN, IS, NOT, begins_argument, begins_expr, begins_leaf, begins_logic, begins_operand,
-    begins_operator, begins_step, begins_unary, class_of, code_of, goes_wider,
+    DOT, F_STRING_START, IN, IS, NOT, TEXT, begins_argument, begins_expr, begins_leaf,
+    begins_logic, begins_operand, begins_operator, begins_step, begins_unary, class_of, code_of,
+    goes_wider, is_name, is_text,
 };
 use crate::token::{Taken, comparator_token, mark, name_token, stands};
 use py_ast::{Comparator, Step, StepForm};
@@ -117,6 +118,14 @@ pub fn stands_step(tokens: &[Token], callable: bool) -> bool
     }
 }
 
+/// Whether a string begins here.
+#[inline(always)]
+fn stands_string(tokens: &[Token]) -> bool
+    ensures { result ≡ starts class string_first tokens.now }
+{
+    stands(tokens, TEXT) || stands(tokens, F_STRING_START)
+}
+
 /// Whether a primary, a power, operands, a comparison or a conditional goes on here behind an atom.
 fn stands_on(tokens: &[Token]) -> bool
     ensures step { result ≡ false → starts class (step_first true) tokens.now ≡ false }
@@ -128,6 +137,17 @@ fn stands_on(tokens: &[Token]) -> bool
     ensures choice { result ≡ false → starts class (35 ∷ []) tokens.now ≡ false }
 {
     stands_step(tokens, true) || stands_wider(tokens)
+}
+
+/// Whether an atom of one token stands here.
+#[inline(always)]
+pub fn stands_leaf(tokens: &[Token]) -> bool
+    ensures { result ≡ starts class leaf_codes tokens.now }
+{
+    match tokens {
+        [first, ..] => begins_leaf(class_of(first)),
+        [] => false,
+    }
 }
 
 /// Whether an atom of one token stands here, and no token behind it goes on with it.
@@ -147,12 +167,30 @@ pub fn stands_alone(tokens: &[Token]) -> bool
     }
 }
 
+/// Whether a string that isn't formatted stands here, and no token behind it goes on with it.
+pub fn stands_text_alone(tokens: &[Token]) -> bool
+    ensures text { result ≡ true → starts class (4 ∷ []) tokens.now ≡ true }
+    ensures string { result ≡ true → starts class string_first (drop 1 tokens.now) ≡ false }
+    ensures step { result ≡ true → starts class (step_first true) (drop 1 tokens.now) ≡ false }
+    ensures exponent { result ≡ true → starts class (53 ∷ []) (drop 1 tokens.now) ≡ false }
+    ensures binary { (level : ℕ) → result ≡ true → starts class (level_codes level) (drop 1 tokens.now) ≡ false }
+    ensures comparison { result ≡ true → starts class comparison_first (drop 1 tokens.now) ≡ false }
+    ensures conjunction { result ≡ true → starts class (18 ∷ []) (drop 1 tokens.now) ≡ false }
+    ensures disjunction { result ≡ true → starts class (42 ∷ []) (drop 1 tokens.now) ≡ false }
+    ensures choice { result ≡ true → starts class (35 ∷ []) (drop 1 tokens.now) ≡ false }
+{
+    match tokens {
+        [first, rest @ ..] => is_text(first) && !stands_string(rest) && !stands_on(rest),
+        [] => false,
+    }
+}
+
 /// Whether an argument begins here, which must have a keyword where `keyword` says so.
 pub fn stands_argument(tokens: &[Token], keyword: bool) -> bool
     ensures { result ≡ starts class (argument_first keyword) tokens.now }
 {
     match tokens {
-        [first, ..] => begins_argument(keyword, class_of(first)),
+        [first, ..] => is_name(first) || begins_argument(keyword, class_of(first)),
         [] => false,
     }
 }

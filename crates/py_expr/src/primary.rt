@@ -271,15 +271,18 @@ where
 {
     if keyword {
         let (name, rest) = name_token(tokens)?;
-        return keyword_argument_by(alloc, rest, room, name, inner);
+        let (argument, rest) = keyword_argument_by(alloc, rest, room, name, inner)?;
+        return Ok((argument, rest));
     }
     if stands(tokens, SUPER) {
         let (name, rest) = super_token(tokens)?;
-        return keyword_argument_by(alloc, rest, room, name, inner);
+        let (argument, rest) = keyword_argument_by(alloc, rest, room, name, inner)?;
+        return Ok((argument, rest));
     }
     plain_argument_by(alloc, tokens, room, inner)
 }
 
+#[inline(never)]
 #[tactic(auto, unfolding(py_ast::specs::Grammar::past, py_ast::specs::Grammar::mapped))]
 fn keyword_argument_by<'a, F>(
     alloc: Global,
@@ -306,6 +309,8 @@ where
     ))
 }
 
+/// An argument with no keyword, or with one that may be an expression. Most have none.
+#[tactic(auto, using(crate::proofs::Ends::after_alone))]
 fn plain_argument_by<'a, F>(
     alloc: Global,
     tokens: &'a [Token],
@@ -319,8 +324,37 @@ where
     ensures read { Gives (λ x. Read x.0 x.1.now) result ((sequence (nested room Whole) (λ e. after_argument (nested room Whole) (bare_name e)) argument_of).read tokens.now) }
     ensures shorter { IfOk result (λ x. length x.1.now < length tokens.now) }
 {
-    let (first, rest) = nested_by(tokens, room, inner)?;
-    let (keyword, rest) = keyword_behind(alloc, &first, rest, room, inner)?;
+    let (value, rest) = nested_by(tokens, room, inner)?;
+    if !stands(rest, EQUAL) {
+        return Ok((
+            Argument {
+                keyword: None,
+                value,
+            },
+            rest,
+        ));
+    }
+    let (argument, rest) = argument_from(alloc, value, rest, room, inner)?;
+    Ok((argument, rest))
+}
+
+/// An argument, where its first expression was read and the tokens begin behind that.
+#[inline(never)]
+fn argument_from<'a, F>(
+    alloc: Global,
+    first: Expr,
+    tokens: &'a [Token],
+    room: u8,
+    inner: &F,
+) -> Taken<'a, Argument>
+where
+    F: Fn(&[Token]) -> Taken<'_, Expr>,
+    requires can_call { F.IsAlwaysCallable inner.now }
+    requires reads { ReadsSome (λ ts r. F.post inner.now ts r) (nested room Whole).read }
+    ensures read { (ts : List Token) → (nested room Whole).read ts ≡ Read first tokens.now → Gives (λ x. Read x.0 x.1.now) result ((sequence (nested room Whole) (λ e. after_argument (nested room Whole) (bare_name e)) argument_of).read ts) }
+    ensures no_longer { IfOk result (λ x. length x.1.now ≤ length tokens.now) }
+{
+    let (keyword, rest) = keyword_behind(alloc, &first, tokens, room, inner)?;
     Ok((as_argument(first, keyword), rest))
 }
 
@@ -350,6 +384,7 @@ where
     after_argument_by(alloc, tokens, room, name, inner)
 }
 
+#[inline(never)]
 #[tactic(auto, unfolding(py_ast::specs::Grammar::after_argument, py_ast::specs::Grammar::past, py_ast::specs::Grammar::mapped))]
 fn after_argument_by<'a, F>(
     alloc: Global,

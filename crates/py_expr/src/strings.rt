@@ -1,10 +1,16 @@
 //! Strings in a row.
 
-ghost use Rattle.std.specs.Prelude.{◌≡◌, ◌∷◌, ◌++◌, [], List, Option, Some, None, IfOk, reverse};
+ghost use Rattle.std.specs.Prelude.{◌≡◌, ◌<◌, ◌∷◌, ◌++◌, [], List, Option, Some, None, IfOk, length, reverse};
+ghost use Rattle.phrases.specs.Reading.{Read};
+ghost use Rattle.phrases.specs.Phrases.{token};
+ghost use Rattle.phrases.specs.Loops.{Gives};
+ghost use Rattle.py_ast.specs.Tokens.{text_of};
 ghost use Rattle.py_ast.specs.Trees.{strings_of, joined_form, plain_text, parts_of};
+ghost use Rattle.py_ast.specs.Grammar.{mapped};
 
-use crate::token::make_leaf;
+use crate::token::{Taken, make_leaf, text_token};
 use py_ast::{Expr, Form, Part, Piece};
+use py_lexer::Token;
 use py_literals::place::Pos;
 use rv_names::{Memory, Text};
 use sqlite_items::Items;
@@ -53,6 +59,7 @@ fn parts_of(alloc: Global, pieces: Items<(Pos, Piece)>) -> Result<Items<Part>, M
 }
 
 /// Several strings in a row, or one, as one expression.
+#[inline(never)]
 fn joined_strings(
     alloc: Global,
     first: (Pos, Piece),
@@ -71,6 +78,7 @@ fn joined_strings(
 }
 
 /// What a string alone stands for, with nothing copied: most strings have no neighbour.
+#[inline(always)]
 #[tactic(auto, using(crate::proofs::Texts::alone_plain, crate::proofs::Texts::alone_formatted))]
 fn alone(piece: Piece) -> Form
     ensures { (at : Pos) → result ≡ joined_form ((at, piece) ∷ []) (plain_text ((at, piece) ∷ [])) }
@@ -94,4 +102,15 @@ pub fn as_strings(
     }
     let (at, piece) = first;
     Ok(make_leaf(at, alone(piece)))
+}
+
+/// A string that isn't formatted, as the expression that it is where no string stands behind it.
+#[inline(always)]
+#[tactic(auto, unfolding(py_ast::specs::Grammar::mapped))]
+pub fn text_here(tokens: &[Token]) -> Taken<'_, Expr>
+    ensures read { Gives (λ x. Read x.0 x.1.now) result ((mapped (token text_of) (λ p. strings_of p [])).read tokens.now) }
+    ensures shorter { IfOk result (λ x. length x.1.now < length tokens.now) }
+{
+    let ((at, piece), rest) = text_token(tokens)?;
+    Ok((make_leaf(at, alone(piece)), rest))
 }

@@ -10,8 +10,8 @@ ghost use Rattle.py_ast.specs.Tokens.{leaf_codes, leaf_at, leaf_of, leaf_form, n
 ghost use Rattle.py_ast.specs.Trees.{leaf};
 
 use crate::class::{
-    F_STRING_TEXT, NAME, SUPER, TEXT, begins_comparator, begins_leaf, begins_operand, begins_unary,
-    class_of, code_of,
+    F_STRING_TEXT, SUPER, TEXT, begins_comparator, begins_leaf, begins_operand, begins_unary,
+    class_of, code_of, is_name, is_super, is_text,
 };
 use phrases::{Fault, Stop};
 use py_ast::{
@@ -26,11 +26,16 @@ use rv_names::Memory;
 pub type Taken<'a, A> = Result<(A, &'a [Token]), Stop<'a, Token>>;
 
 /// Whether the token is of this class. Its value is looked at only where a value has a part in the class.
+#[inline(always)]
 #[tactic(auto, using(crate::proofs::Marks::mark_is))]
 pub fn is_of(token: &Token, code: u8) -> bool
     ensures { result ≡ has (code ∷ []) (class token.now) }
 {
-    if code < 5 || code == F_STRING_TEXT {
+    if code == TEXT {
+        is_text(token)
+    } else if code == SUPER {
+        is_super(token)
+    } else if code < 5 || code == F_STRING_TEXT {
         class_of(token) == code
     } else {
         code_of(token.kind) == code
@@ -38,6 +43,7 @@ pub fn is_of(token: &Token, code: u8) -> bool
 }
 
 /// Whether a token of this class stands at the front.
+#[inline(always)]
 pub fn stands(tokens: &[Token], code: u8) -> bool
     ensures { result ≡ starts class (code ∷ []) tokens.now }
 {
@@ -48,6 +54,7 @@ pub fn stands(tokens: &[Token], code: u8) -> bool
 }
 
 /// A token of this class, at its place.
+#[inline(always)]
 pub fn mark(tokens: &[Token], code: u8) -> Taken<'_, Pos>
     ensures read { Gives (λ x. Read x.0 x.1.now) result ((token (mark_of code)).read tokens.now) }
     ensures shorter { IfOk result (λ x. length x.1.now < length tokens.now) }
@@ -65,6 +72,7 @@ pub fn mark(tokens: &[Token], code: u8) -> Taken<'_, Pos>
 }
 
 /// A token of this class that opens a nesting, where `room` is how many more may be open.
+#[inline(always)]
 pub fn open(tokens: &[Token], code: u8, room: u8) -> Taken<'_, Pos>
     ensures read { Gives (λ x. Read x.0 x.1.now) result ((opener room (mark_of code)).read tokens.now) }
     ensures room { IfOk result (λ x. 0 < room) }
@@ -84,6 +92,7 @@ pub fn open(tokens: &[Token], code: u8, room: u8) -> Taken<'_, Pos>
     }
 }
 
+#[inline(always)]
 fn leaf_form(kind: Kind, value: &Value) -> Result<Option<Form>, Memory>
     ensures { IfOk result (λ form. form ≡ leaf_form kind value.now) }
 {
@@ -105,6 +114,7 @@ fn leaf_form(kind: Kind, value: &Value) -> Result<Option<Form>, Memory>
 }
 
 /// An atom of one token, where one stands.
+#[inline(always)]
 pub fn leaf_here(tokens: &[Token]) -> Taken<'_, Expr>
     requires { starts class leaf_codes tokens.now ≡ true }
     ensures read { Gives (λ x. Read x.0 x.1.now) result ((token leaf_of).read tokens.now) }
@@ -138,6 +148,7 @@ pub fn leaf_token(tokens: &[Token]) -> Taken<'_, Expr>
 }
 
 /// A node that begins with the token that makes it.
+#[inline(always)]
 pub fn make_leaf(at: Pos, form: Form) -> Expr
     ensures { result ≡ leaf at form }
 {
@@ -169,14 +180,15 @@ pub fn name_token(tokens: &[Token]) -> Taken<'_, NameAt>
 {
     match tokens {
         [first, rest @ ..] => {
-            let code = class_of(first);
-            if code != NAME && code != SUPER {
+            if !is_name(first) {
                 return Err(Stop::Fault(Fault::Syntax, tokens));
             }
-            match name_value(first.at, &first.value) {
-                Err(Memory) => Err(Stop::Memory),
-                Ok(None) => Err(Stop::Fault(Fault::Syntax, tokens)),
-                Ok(Some(name)) => Ok((name, rest)),
+            match &first.value {
+                Value::Name(name) => match name.copy() {
+                    Ok(name) => Ok((NameAt { name, at: first.at }, rest)),
+                    Err(Memory) => Err(Stop::Memory),
+                },
+                _ => Err(Stop::Fault(Fault::Syntax, tokens)),
             }
         }
         [] => Err(Stop::Fault(Fault::Syntax, tokens)),
@@ -190,7 +202,7 @@ pub fn super_token(tokens: &[Token]) -> Taken<'_, NameAt>
 {
     match tokens {
         [first, rest @ ..] => {
-            if class_of(first) != SUPER {
+            if !is_super(first) {
                 return Err(Stop::Fault(Fault::Syntax, tokens));
             }
             match name_value(first.at, &first.value) {
@@ -204,13 +216,14 @@ pub fn super_token(tokens: &[Token]) -> Taken<'_, NameAt>
 }
 
 /// A string that isn't formatted.
+#[inline(always)]
 pub fn text_token(tokens: &[Token]) -> Taken<'_, (Pos, Piece)>
     ensures read { Gives (λ x. Read (x.0.0, x.0.1) x.1.now) result ((token text_of).read tokens.now) }
     ensures shorter { IfOk result (λ x. length x.1.now < length tokens.now) }
 {
     match tokens {
         [first, rest @ ..] => {
-            if class_of(first) != TEXT {
+            if !is_text(first) {
                 return Err(Stop::Fault(Fault::Syntax, tokens));
             }
             match &first.value {

@@ -7,7 +7,7 @@ use Rattle.py_lexer.specs.declared.token.Token.{Token}
 use Rattle.py_ast.specs.declared.tree.Expr.{Expr}
 use Rattle.py_ast.specs.Grammar.{binary, Whole, Inversion, Factor, nested, shaped}
 use Rattle.py_expr.proofs.Alone.{binary_fails, comparison_fails, disjunction_fails, expr_fails}
-use Rattle.py_expr.proofs.Ends.{Ends, power_fails, expr_leaf, primary_stops, power_stops, comparison_stops, factor_alone, inversion_alone, expr_comparison}
+use Rattle.py_expr.proofs.Ends.{Ends, power_fails, expr_leaf, expr_text, primary_stops, power_stops, comparison_stops, factor_alone, inversion_alone, expr_comparison}
 use Rattle.py_expr.proofs.expr.+expr.Goals as goal
 
 pub comparison_of-returns-in_err-first-clause-read : goal.comparison_of-returns-in_err-first-clause-read
@@ -70,6 +70,23 @@ expr_of-returns-then-stands_alone-clause-read t c =
       choice = h.choice is;
     } in
     subst (λ (o : Outcome Token Expr). Gives {X = Expr × Bor (List Token)} (λ x. Read x.0 x.1.now) c.leaf_here.result o) (sym (expr_leaf c.args.room ts (h.leaf is) ends)) c.leaf_here.ensures.read
+
+pub expr_of-returns-then-stands_text_alone-clause-read : goal.expr_of-returns-then-stands_text_alone-clause-read
+expr_of-returns-then-stands_text_alone-clause-read t c =
+    let ts = c.args.tokens.now in
+    let h = c.stands_text_alone.ensures in
+    let is = c.if-stands_text_alone.true in
+    let ends : Ends (drop 1 ts) =
+    record {
+      step = h.step is;
+      exponent = h.exponent is;
+      binary = λ level. h.binary level is;
+      comparison = h.comparison is;
+      conjunction = h.conjunction is;
+      disjunction = h.disjunction is;
+      choice = h.choice is;
+    } in
+    subst (λ (o : Outcome Token Expr). Gives {X = Expr × Bor (List Token)} (λ x. Read x.0 x.1.now) c.text_here.result o) (sym (expr_text c.args.room ts (h.text is) (h.string is) ends)) c.text_here.ensures.read
 
 pub power_of-returns-in_err-base-clause-read : goal.power_of-returns-in_err-base-clause-read
 power_of-returns-in_err-base-clause-read t c =
