@@ -9,3 +9,4 @@ pub mod Names
 pub mod Segments
 pub mod Steps
 pub mod Listed
+pub mod Flat

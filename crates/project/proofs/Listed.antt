@@ -1,16 +1,14 @@
 -- The modules of a project, entry by entry.
-use Rattle.std.proofs.Common.{◌≡◌, Bool, true, false, cond, List, [], ◌∷◌, ◌++◌, map, Option, Some, None, refl, sym, ap, ◌∙◌, subst, append_assoc}
-use Rattle.std.specs.Prelude.{T, option_map}
+use Rattle.std.proofs.Common.{◌≡◌, Bool, true, false, cond, List, [], ◌∷◌, ◌++◌, Some, None, refl, sym, ap, ◌∙◌, subst, append_assoc}
+use Rattle.std.specs.Prelude.{T}
 use Rattle.std.specs.List.{cons_option, filter_map}
 use Rattle.std.specs.Ordering.{eq_by_cmp}
-use Rattle.std.specs.FinMap.{entries, entries_sorted, find, get, get-entries, is_sorted}
-use Rattle.std.specs.FinMap.Entries.{below_all}
+use Rattle.std.specs.FinMap.{entries, entries_sorted, find, get-entries, is_sorted}
 use Rattle.std.specs.Prelude.{◌&&◌}
-use Rattle.rv_names.specs.Keys.{Bytes, Parts, bytes_order}
-use Rattle.py_ast.specs.Parsed.{Kept}
+use Rattle.rv_names.specs.Keys.{Bytes, bytes_order}
 use Rattle.project.specs.Files.{AreFiles, FileMap}
 use Rattle.project.specs.Items.{FileParts}
-use Rattle.project.specs.Modules.{Placed, module_in, modules, placed}
+use Rattle.project.specs.Modules.{Placed, module_in, modules}
 use Rattle.project.proofs.Totals.{below_none, tied, tied_same}
 
 -- each file stands at its path

@@ -10,7 +10,6 @@ use Rattle.unicode_ident.specs.Ident.{is_xid_continue}
 use Rattle.unicode_ident.proofs.IdentLemmas.{is_xid_start-ascii, is_xid_continue-ascii}
 use Rattle.unicode_normalization.specs.Forms.{Nfkc}
 use Rattle.unicode_normalization.proofs.FormsLemmas.{normalize-ascii}
-use Rattle.rv_names.specs.Keys.{Bytes}
 use Rattle.rv_names.specs.Identifier.{IsIdentifier, is_spelled_as_identifier, is_identifier_start}
 use Rattle.taint_config.specs.Kinds.{begins_kind, continues_kind, is_ascii_identifier}
 

@@ -1,8 +1,7 @@
 -- A file that would hide another is the one that the other would be hidden by.
-use Rattle.std.proofs.Common.{◌≡◌, ◌++◌, Option, Some, None, refl, sym, ap, ◌∙◌, subst}
+use Rattle.std.proofs.Common.{◌≡◌, ◌++◌, Option, Some, None, refl, sym, ap, ◌∙◌}
 use Rattle.rv_names.specs.Keys.{Bytes}
-use Rattle.project.specs.declared.neighbour.Neighbour.{Neighbour}
-use Rattle.project.specs.declared.neighbour.Neighbour.TheVariants.{Nobody, Hider, Hidden}
+use Rattle.project.specs.declared.neighbour.Neighbour.TheVariants.{Hider, Hidden}
 use Rattle.project.specs.Paths.{before, hidden_at, hider_at, neighbour_in, neighbour_of, package_end, python_end}
 use Rattle.project.proofs.Ends.{before_joined, joined_before}
 

@@ -1,20 +1,19 @@
 -- What holds of the files of every project, once one is put or dropped.
-use Rattle.std.proofs.Common.{◌≡◌, ℕ, ◌+◌, ◌-◌, ◌≤◌, ◌<◌, Bool, true, false, cond, List, [], ◌∷◌, Option, Some, None, refl, sym, ap, ◌∙◌, subst, arith}
-use Rattle.std.specs.Prelude.{nat_lt, is_some}
+use Rattle.std.proofs.Common.{◌≡◌, ℕ, ◌-◌, ◌≤◌, Bool, true, false, cond, [], Some, None, refl, sym, ap, ◌∙◌, subst, arith}
+use Rattle.std.specs.Prelude.{nat_lt}
 use Rattle.std.specs.Ordering.{eq_by_cmp}
 use Rattle.std.specs.Map.{remove_entry}
 use Rattle.std.specs.BTreeMap.{insert_entry, is_at}
-use Rattle.std.specs.FinMap.{FinMap, contains_key, empty, entries, get, get-empty, get-insert, get-remove, insert, len, len-empty, len-insert, len-remove, remove, same_map}
+use Rattle.std.specs.FinMap.{contains_key, empty, get, get-empty, insert, len, len-empty, len-remove, remove}
 use Rattle.std.proofs.lemmas.Bool.Decides.{nat_tests}
 use Rattle.rv_names.specs.Keys.{Bytes, bytes_order}
-use Rattle.project.specs.declared.faults.Which.{Which}
 use Rattle.project.specs.declared.faults.Which.TheVariants as which
 use Rattle.project.specs.declared.item.Item.{Item}
 use Rattle.project.specs.Files.{AreFiles, FileMap, IsProject, file_at, first_over, files_limit, given_by_all, text_limit, text_of, with_file}
 use Rattle.project.specs.Items.{FileParts, Fits}
 use Rattle.project.proofs.Given.{get_here, get_there, given_total, gone_here, gone_there, text_remove, text_total, weigh, weigh_text}
 use Rattle.project.proofs.Maps.{Entries, entries_in, files_in, files_insert, files_none, files_remove, rises, rises_insert, rises_remove, rising}
-use Rattle.project.proofs.Totals.{at, exact, tied, tied_same, total, total_none, total_order}
+use Rattle.project.proofs.Totals.{tied, tied_same, total, total_none, total_order}
 
 -- a key is another one or not
 pub one_or_other : (P : Type 0) (q k : Bytes) → (q ≡ k → P) → ((q ≡ k → ⊥) → P) → P

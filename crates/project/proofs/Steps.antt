@@ -1,9 +1,9 @@
 -- The sums beside a project's files, once a file is put or dropped.
-use Rattle.std.proofs.Common.{◌≡◌, ℕ, ◌+◌, ◌*◌, ◌≤◌, ◌<◌, Bool, true, false, cond, List, Option, Some, None, refl, sym, ap, ◌∙◌, subst, arith}
+use Rattle.std.proofs.Common.{◌≡◌, ℕ, ◌+◌, ◌≤◌, ◌<◌, Bool, true, false, cond, Option, Some, None, sym, ap, ◌∙◌, subst, arith}
 use Rattle.std.specs.Prelude.{is_some, nat_le, nat_lt, ◌&&◌}
 use Rattle.std.specs.Map.{lookup}
 use Rattle.std.specs.BTreeMap.{is_at}
-use Rattle.std.specs.FinMap.{contains_key, entries, get, insert, len, len-insert, remove, same_map}
+use Rattle.std.specs.FinMap.{contains_key, get, insert, len, len-insert, remove, same_map}
 use Rattle.std.proofs.lemmas.Bool.Decides.{nat_tests}
 use Rattle.rv_names.specs.Keys.{Bytes, bytes_order}
 use Rattle.project.specs.declared.faults.Which.TheVariants as which

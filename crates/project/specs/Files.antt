@@ -1,5 +1,5 @@
 -- The live files of a project: a finite map from a path to the file there.
-use Rattle.std.specs.Prelude.{◌≡◌, ℕ, ◌+◌, ◌≤◌, nat_le, nat_lt, ◌&&◌, Bool, false, cond, IsTrue, List, if◌then◌else◌, Option, Some, None}
+use Rattle.std.specs.Prelude.{◌≡◌, ℕ, ◌+◌, ◌≤◌, nat_le, nat_lt, ◌&&◌, Bool, true, false, cond, IsTrue, List, if◌then◌else◌, Option, Some, None}
 use Rattle.std.specs.List.{sum_by}
 use Rattle.std.specs.FinMap.{FinMap, contains_key, entries, from_sorted, get, insert, is_sorted, len}
 use Rattle.rv_names.specs.Keys.{Bytes, bytes_order}
@@ -70,6 +70,16 @@ is_hidden_by files Nobody = false
 
 abbrev pub is_hidden : FileMap → Bytes → Bool
 is_hidden files path = is_hidden_by files (neighbour_of path)
+
+-- a file with this neighbour would hide another
+abbrev pub hides : Neighbour → Bool
+hides (Hidden plain) = true
+hides (Hider init) = false
+hides Nobody = false
+
+-- no file is hidden where no package's own file was put
+abbrev pub IsFlatUnless : Bool → FileMap → Type 0
+IsFlatUnless packages files = packages ≡ false → (path : Bytes) → is_hidden files path ≡ false
 
 -- how many callables a file gives the project, each file's own as 32 bits hold it
 abbrev pub given_by : FileMap → Bytes → Item → ℕ

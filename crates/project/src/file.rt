@@ -3,7 +3,7 @@
 ghost use Rattle.std.specs.Prelude.{◌≡◌, ◌<◌, ◌^◌, IfOk};
 ghost use Rattle.std.specs.Arc.{arc_value};
 ghost use Rattle.project.specs.Callables.{capped, item_callables};
-ghost use Rattle.project.specs.Files.{file_at};
+ghost use Rattle.project.specs.Files.{file_at, hides};
 ghost use Rattle.project.specs.Items.{Fits};
 ghost use Rattle.project.specs.Paths.{neighbour_of};
 
@@ -95,6 +95,17 @@ impl File {
         ensures { result.now ≡ neighbour_of self.now.path }
     {
         &self.neighbour
+    }
+
+    /// Whether it hides another file while that is live.
+    pub(crate) fn hides(&self) -> bool
+        ensures { result ≡ hides (neighbour_of self.now.path) }
+    {
+        match &self.neighbour {
+            Neighbour::Hidden(_) => true,
+            Neighbour::Hider(_) => false,
+            Neighbour::Nobody => false,
+        }
     }
 
     /// The same file, which shares its item and its paths. It costs a few counters.

@@ -33,13 +33,15 @@ pub struct Files {
     live: BTreeMap<Text, File>,
     text: u64,
     given: u64,
+    // Whether a package's own file was ever put.
+    packages: bool,
 }
 
 impl Model for Files {
     ghost use Rattle.std.specs.Coded.{coded_list, coded_ℕ};
     ghost use Rattle.std.specs.FinMap as map;
     ghost use Rattle.project.specs.contracts.file.File as file_row;
-    ghost use Rattle.project.specs.Files.{FileMap, IsProject};
+    ghost use Rattle.project.specs.Files.{FileMap, IsFlatUnless, IsProject};
 
     ghost Value = { FileMap };
 
@@ -47,7 +49,7 @@ impl Model for Files {
 
     ghost view = { λ f. map.from_sorted f.live.entries };
 
-    ghost invariant = { λ f. IsProject f.live.entries f.text f.given };
+    ghost invariant = { λ f. IsProject f.live.entries f.text f.given × IsFlatUnless f.packages (map.from_sorted f.live.entries) };
 }
 
 impl Files {
@@ -60,6 +62,7 @@ impl Files {
             live: BTreeMap::new(alloc),
             text: 0,
             given: 0,
+            packages: false,
         }
     }
 
@@ -72,6 +75,7 @@ impl Files {
             live: self.live.clone()?,
             text: self.text,
             given: self.given,
+            packages: self.packages,
         })
     }
 
@@ -139,7 +143,7 @@ impl Files {
     ///   out;
     /// * `Memory` where there is no memory left.
     ///
-    /// After each of them nothing has changed. It searches the paths for the neighbour and for the path, and once more for the path
+    /// After each of them nothing has changed. It searches the paths for the path, for the neighbour where a package's own file was ever put, and once more for the path
     /// where a count is near its limit; each search compares with about log n paths of n. It is linear in the path and in the top level of
     /// a module and the bodies of its classes.
     pub fn put(&mut self, path: Text, item: Arc<Item>, len: u32) -> Result<(), FilesError>
@@ -156,9 +160,11 @@ impl Files {
         let hidden = self.is_hidden(&file);
         let beneath = self.beneath(&file);
         let more = self.given + shown(hidden, &file);
+        let packages = self.packages | file.hides();
         let old = self.live.insert(key, file)?;
         self.text = self.text + len as u64 - text_at(old.as_ref());
         self.given = more - replaced(hidden, beneath, old.as_ref());
+        self.packages = packages;
         Ok(())
     }
 
@@ -220,10 +226,13 @@ impl Files {
         self.given_without(path).min(u32::MAX as u64) as u32
     }
 
-    /// Whether a file is hidden, by its neighbour.
+    /// Whether a file is hidden, by its neighbour. It is looked for only where a package's own file was ever put.
     pub(crate) fn is_hidden(&self, file: &File) -> bool
         ensures { result ≡ is_hidden self.now file.now.path }
     {
+        if !self.packages {
+            return false;
+        }
         match file.neighbour() {
             Neighbour::Hider(init) => self.live.contains_key(init),
             Neighbour::Hidden(_) => false,

@@ -1,6 +1,6 @@
 //! The two files that one module may have: `a.py`, and `a/__init__.py`, which hides it.
 
-ghost use Rattle.std.specs.Prelude.{◌≡◌, ◌++◌, IfOk};
+ghost use Rattle.std.specs.Prelude.{◌≡◌, ◌+◌, ◌≤◌, ◌++◌, length, IfOk};
 ghost use Rattle.std.specs.Option.{option_copied};
 ghost use Rattle.project.specs.Paths.{before, hidden_at, hider_at, neighbour_of, package_end, python_end};
 
@@ -9,6 +9,9 @@ use std::alloc::Global;
 
 /// What a package's own file ends with.
 const PACKAGE_END: &str = "/__init__.py";
+
+/// The greatest number of bytes of a path that is put together without memory.
+const SHORT: usize = 22;
 
 /// What a Python file ends with.
 pub const PYTHON_END: &str = ".py";
@@ -44,9 +47,27 @@ pub fn before<'a>(path: &'a str, ending: &str) -> Option<&'a str>
     path.strip_suffix(ending)
 }
 
+/// What `joined` gives of few bytes: it takes no memory for them.
+fn short_joined(alloc: Global, stem: &str, ending: &str) -> Result<Text, Memory>
+    requires { length stem.now + length ending.now ≤ 22 }
+    ensures { IfOk result (λ t. t ≡ stem.now ++ ending.now) }
+{
+    let mut bytes = [0; SHORT];
+    let at = stem.len();
+    let len = at + ending.len();
+    bytes[..at].copy_from_slice(stem.as_bytes());
+    bytes[at..len].copy_from_slice(ending.as_bytes());
+    let path = unsafe { str::from_utf8_unchecked(&bytes[..len]) };
+    Text::read(alloc, path)
+}
+
+/// The path that is put together of its front and its ending.
 fn joined(alloc: Global, stem: &str, ending: &str) -> Result<Text, Memory>
     ensures { IfOk result (λ t. t ≡ stem.now ++ ending.now) }
 {
+    if stem.len().saturating_add(ending.len()) <= SHORT {
+        return short_joined(alloc, stem, ending);
+    }
     let mut path = String::with_capacity(alloc, stem.len().saturating_add(ending.len()))?;
     path.push_str(stem)?;
     path.push_str(ending)?;

@@ -3,16 +3,13 @@ use Rattle.std.specs.Prelude.{option_map}
 use Rattle.std.specs.Ordering.{eq_by_cmp}
 use Rattle.std.specs.Arc.{arc_value}
 use Rattle.std.specs.FinMap.{get, get-insert, get-remove}
-use Rattle.rv_names.specs.Keys.{Bytes, bytes_order}
+use Rattle.rv_names.specs.Keys.{bytes_order}
 use Rattle.project.specs.declared.edit.Edit.{Edit}
 use Rattle.project.specs.declared.edit.Edit.TheVariants as edits
 use Rattle.project.specs.declared.item.Item.{Item}
 use Rattle.project.specs.Edits.{Hold, ItemMap, after_edit, edited}
 use Rattle.project.specs.Files.{FileMap, file_at}
 use Rattle.project.specs.Items.{FileParts}
-use Rattle.project.proofs.Given
-use Rattle.project.proofs.Counts
-use Rattle.project.proofs.Projects
 use Rattle.project.proofs.Totals.{total_order}
 use Rattle.project.proofs.edit.one_step.Goals as goal
 

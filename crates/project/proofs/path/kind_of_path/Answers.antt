@@ -1,10 +1,9 @@
-use Rattle.std.proofs.Common.{◌≡◌, Bool, true, false, cond, Option, Some, None, refl, sym, ap, ◌∙◌}
+use Rattle.std.proofs.Common.{◌≡◌, false, cond, Option, Some, None, sym, ap, ◌∙◌}
 use Rattle.std.specs.Prelude.{codes, eqb, option_map}
 use Rattle.std.specs.List.{ends_with}
 use Rattle.std.proofs.lemmas.Str.Pattern.{ends_text}
 use Rattle.rv_names.specs.Keys.{Bytes, Parts, bytes_equal}
 use Rattle.project.specs.Paths.{kind_of_path, models_end, module_at}
-use Rattle.project.specs.declared.path.PathKind.{PathKind}
 use Rattle.project.specs.declared.path.PathKind.TheVariants as kinds
 use Rattle.project.proofs.path.kind_of_path.Goals as goal
 

@@ -1,4 +1,4 @@
-use Rattle.std.proofs.Common.{◌≡◌, ◌++◌, [], ◌∷◌, Some, refl, sym, ap, ◌∙◌, subst, rules}
+use Rattle.std.proofs.Common.{◌++◌, [], ◌∷◌, sym, ap, ◌∙◌, subst, rules}
 use Rattle.project.specs.Paths.{segments}
 use Rattle.project.proofs.Segments.{Reads, ascii_none, ascii_some, reads_last, reads_more, reads_none, split_none, split_some}
 use Rattle.project.proofs.path.names_in.Goals as goal

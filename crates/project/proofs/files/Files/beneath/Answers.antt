@@ -1,8 +1,4 @@
-use Rattle.std.proofs.Common.{◌≡◌, ℕ, ◌+◌, ◌≤◌, Option, Some, None, refl, sym, ap, ◌∙◌, subst, arith}
-use Rattle.std.specs.Map.{lookup}
-use Rattle.std.specs.BTreeMap.{is_at}
-use Rattle.rv_names.specs.Keys.{bytes_order}
-use Rattle.std.specs.FinMap.{get}
+use Rattle.std.proofs.Common.{Some, None, sym, ap, ◌∙◌}
 use Rattle.project.specs.Sums.{beneath, beneath_by, callables_at}
 use Rattle.project.proofs.Steps.{found}
 use Rattle.project.proofs.files.Files.beneath.Goals as goal
@@ -18,12 +14,12 @@ returns-in-Nobody-clause-value c = ap (beneath_by c.args.self.now) (sym c.in-Nob
 pub returns-in-None-clause-value : goal.returns-in-None-clause-value
 unfolding beneath
 returns-in-None-clause-value c =
-    ap callables_at (sym (found c.self.inside.live.entries c.self.inside.text c.self.inside.given c.args.self.now c.in-Hidden.plain None c.self.invariant c.self.view_is c.in-None.ensures.value))
+    ap callables_at (sym (found c.self.inside.live.entries c.self.inside.text c.self.inside.given c.args.self.now c.in-Hidden.plain None c.self.invariant.0 c.self.view_is c.in-None.ensures.value))
     ∙ ap (beneath_by c.args.self.now) (sym c.in-Hidden.is ∙ c.neighbour.ensures)
 
 pub returns-in-Some-clause-value : goal.returns-in-Some-clause-value
 unfolding beneath
 returns-in-Some-clause-value c =
     c.callables.ensures
-    ∙ ap callables_at (sym (found c.self.inside.live.entries c.self.inside.text c.self.inside.given c.args.self.now c.in-Hidden.plain (Some c.in-Some.file.now) c.self.invariant c.self.view_is c.in-Some.ensures.value))
+    ∙ ap callables_at (sym (found c.self.inside.live.entries c.self.inside.text c.self.inside.given c.args.self.now c.in-Hidden.plain (Some c.in-Some.file.now) c.self.invariant.0 c.self.view_is c.in-Some.ensures.value))
     ∙ ap (beneath_by c.args.self.now) (sym c.in-Hidden.is ∙ c.neighbour.ensures)

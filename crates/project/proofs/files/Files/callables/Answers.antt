@@ -5,4 +5,4 @@ use Rattle.project.proofs.Counts.{capped_given}
 use Rattle.project.proofs.files.Files.callables.Goals as goal
 
 pub returns : goal.returns
-returns c = c.min.ensures ∙ ap capped (c.self.invariant.given_is ∙ ap given_by_all c.self.view_is) ∙ capped_given c.args.self.now
+returns c = c.min.ensures ∙ ap capped (c.self.invariant.0.given_is ∙ ap given_by_all c.self.view_is) ∙ capped_given c.args.self.now

@@ -7,5 +7,5 @@ use Rattle.project.proofs.files.Files.is_empty.Goals as goal
 
 pub returns : goal.returns
 returns c =
-    let same = length_in c.self.inside.live.entries (rises c.self.inside.live.entries c.self.invariant.rising) ∙ ap len c.self.view_is in
+    let same = length_in c.self.inside.live.entries (rises c.self.inside.live.entries c.self.invariant.0.rising) ∙ ap len c.self.view_is in
     (λ h. empty_of_len c.args.self.now (sym same ∙ c.is_empty.ensures.0 h), λ e. c.is_empty.ensures.1 (same ∙ ap len e ∙ len-empty bytes_order FileParts))
