@@ -261,6 +261,7 @@ where
 
 /// The statements, and then an `if` or a loop.
 #[tactic(auto, unfolding(py_ast::specs::Grammar::mapped))]
+#[inline(never)]
 pub fn compound_into<'a, S>(
     alloc: Global,
     tokens: &'a [Token],

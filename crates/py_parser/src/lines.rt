@@ -227,6 +227,8 @@ pub fn one_more<A: Drop>(before: Vec<A>, statement: A, rest: &[Token]) -> Result
 
 /// What stands on a line behind its first statement, where that isn't the end: the statements before the line, and then all of the line.
 #[tactic(auto, unfolding(py_ast::specs::Grammar::mapped, py_ast::specs::Grammar::ended))]
+#[cold]
+#[inline(never)]
 fn several_into(
     alloc: Global,
     tokens: &[Token],
@@ -245,6 +247,7 @@ fn several_into(
 
 /// The statements, and then those of a line of simple ones, up to its end. Linear in the line's tokens.
 #[tactic(auto, using(crate::proofs::Lined::line_goes, crate::proofs::Lined::line_ends))]
+#[inline(always)]
 pub fn line_into(
     alloc: Global,
     tokens: &[Token],
