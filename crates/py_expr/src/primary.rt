@@ -1,31 +1,34 @@
 //! Primaries (Language Reference, 6.3), over a function that reads one expression inside of brackets.
 
-ghost use Rattle.std.specs.Prelude.{◌≡◌, ◌<◌, ◌≤◌, ◌∷◌, [], ℕ, List, Option, Some, None, IfOk, length, false};
-ghost use Rattle.phrases.specs.Sets.{has};
+ghost use Rattle.std.specs.Prelude.{◌≡◌, ◌<◌, ◌≤◌, ◌∷◌, ◌++◌, [], ℕ, List, Option, Some, None, IfOk, length, true, false};
+ghost use Rattle.phrases.specs.Sets.{has, starts};
 ghost use Rattle.phrases.specs.Reading.{Read};
-ghost use Rattle.phrases.specs.Phrases.{token, nothing, sequence, either};
-ghost use Rattle.phrases.specs.Loops.{Gives};
+ghost use Rattle.phrases.specs.Phrases.{opener, sequence};
+ghost use Rattle.phrases.specs.Loops.{Gives, opening};
 ghost use Rattle.py_ast.specs.Kinds.{class, mark_of};
-ghost use Rattle.py_ast.specs.Trees.{has_keyword, bare_name, keyword_argument_of, argument_of};
-ghost use Rattle.py_ast.specs.Grammar.{mapped, past, ended, second, step_first, step_next, argument_first, comma_item, comma_items, goes_past, after_argument, argument, arguments, call, subscript, step, chain, atom, primary, Whole, nested};
+ghost use Rattle.py_ast.specs.Trees.{given, has_keyword, bare_name, keyword_argument_of, argument_of};
+ghost use Rattle.py_ast.specs.Grammar.{mapped, past, step_first, step_next, argument_first, comma_item, goes_past, after_argument, argument, call, subscript, step, chain, atom, primary, Whole, nested};
 ghost use Rattle.py_expr.specs.Readers.{ReadsSome};
 
 use crate::atom::atom_by;
-use crate::build::{as_argument, as_items, as_postfix};
+use crate::build::{as_argument, as_postfix};
 use crate::class::{
     COMMA, DOT, EQUAL, LEFT_BRACKET, LEFT_PAREN, RIGHT_BRACKET, RIGHT_PAREN, SUPER, begins_step,
     code_of,
 };
 use crate::inner::{exprs_by, nested_by};
 use crate::parts::{attribute_of, stands_argument, stands_step};
-use crate::token::{Taken, is_of, mark, name_token, open, stands, super_token};
+use crate::token::{Taken, mark, name_token, open, stands, super_token};
 use phrases::{Stop, series};
 use py_ast::{Argument, Expr, NameAt, Step, StepForm};
 use py_lexer::Token;
 use py_literals::place::Pos;
 use rv_names::Memory;
 use sqlite_items::{Boxed, Items};
-use std::alloc::Global;
+use std::alloc::{AllocError, Global};
+
+/// How many arguments most calls of several have at most.
+const FEW: usize = 3;
 
 /// A primary: an atom, and what is done to it. Where no step stands behind the atom, it is the primary.
 #[tactic(auto, using(crate::proofs::Ends::primary_alone))]
@@ -140,7 +143,8 @@ where
     Ok((Step { node, form }, rest))
 }
 
-#[tactic(auto, unfolding(py_ast::specs::Grammar::call, py_ast::specs::Grammar::bracketed, py_ast::specs::Grammar::mapped, py_ast::specs::Grammar::ended))]
+/// A call: the arguments in its brackets. Most have none or one.
+#[tactic(auto, unfolding(py_ast::specs::Grammar::call, py_ast::specs::Grammar::bracketed, py_ast::specs::Grammar::mapped, py_ast::specs::Grammar::ended, py_ast::specs::Grammar::arguments))]
 fn call_by<'a, F>(alloc: Global, tokens: &'a [Token], room: u8, inner: &F) -> Taken<'a, Step>
 where
     F: Fn(&[Token]) -> Taken<'_, Expr>,
@@ -150,83 +154,96 @@ where
     ensures shorter { IfOk result (λ x. length x.1.now < length tokens.now) }
 {
     let (node, rest) = open(tokens, LEFT_PAREN, room)?;
-    let (arguments, rest) = closed_arguments_by(alloc, rest, room, inner)?;
-    let form = StepForm::Call(as_items(alloc, arguments)?);
-    Ok((Step { node, form }, rest))
-}
-
-#[tactic(auto, unfolding(py_ast::specs::Grammar::mapped, py_ast::specs::Grammar::ended))]
-fn closed_arguments_by<'a, F>(
-    alloc: Global,
-    tokens: &'a [Token],
-    room: u8,
-    inner: &F,
-) -> Taken<'a, Option<(Argument, Items<(Pos, Option<Argument>)>)>>
-where
-    F: Fn(&[Token]) -> Taken<'_, Expr>,
-    requires can_call { F.IsAlwaysCallable inner.now }
-    requires reads { ReadsSome (λ ts r. F.post inner.now ts r) (nested room Whole).read }
-    ensures read { Gives (λ x. Read x.0 x.1.now) result ((either class (argument_first false) (mapped (ended (arguments (nested room Whole)) 72) Some) (sequence (token (mark_of 72)) (λ c. nothing None) second)).read tokens.now) }
-    ensures shorter { IfOk result (λ x. length x.1.now < length tokens.now) }
-{
-    if !stands_argument(tokens, false) {
-        let (_, rest) = mark(tokens, RIGHT_PAREN)?;
-        return Ok((None, rest));
+    if !stands_argument(rest, false) {
+        let (_, rest) = mark(rest, RIGHT_PAREN)?;
+        let form = StepForm::Call(Items::new(alloc));
+        return Ok((Step { node, form }, rest));
     }
-    let (items, rest) = arguments_by(alloc, tokens, room, inner)?;
-    let (_, rest) = mark(rest, RIGHT_PAREN)?;
-    Ok((Some(items), rest))
+    let (first, rest) = argument_by(alloc, rest, room, false, inner)?;
+    match call_from(alloc, node, first, rest, room, inner) {
+        Ok((step, rest)) => Ok((step, rest)),
+        Err(stop) => Err(stop),
+    }
 }
 
-#[tactic(auto, unfolding(py_ast::specs::Grammar::arguments))]
-fn arguments_by<'a, F>(
+/// A call, where its bracket and its first argument were read and the tokens begin behind that.
+#[inline(never)]
+fn call_from<'a, F>(
     alloc: Global,
+    node: Pos,
+    first: Argument,
     tokens: &'a [Token],
     room: u8,
     inner: &F,
-) -> Taken<'a, (Argument, Items<(Pos, Option<Argument>)>)>
+) -> Taken<'a, Step>
 where
     F: Fn(&[Token]) -> Taken<'_, Expr>,
     requires can_call { F.IsAlwaysCallable inner.now }
     requires reads { ReadsSome (λ ts r. F.post inner.now ts r) (nested room Whole).read }
-    ensures read { Gives (λ x. Read (x.0.0, x.0.1) x.1.now) result ((arguments (nested room Whole)).read tokens.now) }
-    ensures shorter { IfOk result (λ x. length x.1.now < length tokens.now) }
-{
-    let (first, rest) = argument_by(alloc, tokens, room, false, inner)?;
-    let keyword = first.has_keyword();
-    let (others, rest) = further_arguments_by(alloc, rest, room, keyword, inner)?;
-    Ok(((first, others), rest))
-}
-
-fn further_arguments_by<'a, F>(
-    alloc: Global,
-    tokens: &'a [Token],
-    room: u8,
-    keyword: bool,
-    inner: &F,
-) -> Taken<'a, Items<(Pos, Option<Argument>)>>
-where
-    F: Fn(&[Token]) -> Taken<'_, Expr>,
-    requires can_call { F.IsAlwaysCallable inner.now }
-    requires reads { ReadsSome (λ ts r. F.post inner.now ts r) (nested room Whole).read }
-    ensures read { Gives (λ x. Read x.0 x.1.now) result ((comma_items argument_first (argument (nested room Whole)) has_keyword keyword).read tokens.now) }
+    ensures read { (ts ys : List Token) → (opener room (mark_of 71)).read ts ≡ Read node ys → starts class (argument_first false) ys ≡ true → (argument (nested room Whole) false).read ys ≡ Read first tokens.now → Gives (λ x. Read x.0 x.1.now) result ((call room (nested room Whole)).read ts) }
     ensures no_longer { IfOk result (λ x. length x.1.now ≤ length tokens.now) }
 {
-    series(
-        alloc,
-        tokens,
-        keyword,
-        |_keyword: bool, token: &Token|
-            ensures { result ≡ has (77 ∷ []) (class token.now) }
-        { is_of(token, COMMA) },
-        |keyword: bool, rest: &[Token]|
-            requires can_call { F.IsAlwaysCallable inner.now }
-            requires reads { ReadsSome (λ ts r. F.post inner.now ts r) (nested room Whole).read }
-            ensures read { Gives (λ x. Read x.0.0 x.1.now) result ((comma_item (argument_first keyword) (argument (nested room Whole) keyword)).read rest.now) }
-            ensures next { IfOk result (λ x. x.0.1 ≡ goes_past has_keyword x.0.0) }
-            ensures shorter { IfOk result (λ x. length x.1.now < length rest.now) }
-        { further_argument_by(alloc, rest, room, keyword, inner) },
-    )
+    let mut rest = tokens;
+    let mut state = Some(first.has_keyword());
+    let begun = begun_list(alloc, first, stands(tokens, COMMA))?;
+    let mut all = begun;
+    'each_argument: while let Some(keyword) = comma_state(rest, state) {
+        let ((item, next), after) = match further_argument_by(alloc, rest, room, keyword, inner) {
+            Ok(read) => read,
+            Err(stop) => return Err(stop),
+        };
+        all = with_item(all, item)?;
+        rest = after;
+        state = next;
+    }
+    let (_, behind) = match mark(rest, RIGHT_PAREN) {
+        Ok(read) => read,
+        Err(stop) => return Err(stop),
+    };
+    let form = StepForm::Call(all);
+    Ok((Step { node, form }, behind))
+}
+
+/// A list that begins with an argument, with room for that alone where no more follow.
+#[inline(always)]
+fn begun_list(alloc: Global, first: Argument, more: bool) -> Result<Items<Argument>, AllocError>
+    ensures { IfOk result (λ all. all ≡ first ∷ []) }
+{
+    let room = if more { FEW } else { 1 };
+    let mut all = Vec::with_capacity(alloc, room)?;
+    all.push_reserved(first);
+    Ok(Items::from_vec(all))
+}
+
+/// The state of the argument behind a comma, if one stands at the front and the argument before wasn't the last.
+#[inline(always)]
+fn comma_state(tokens: &[Token], state: Option<bool>) -> Option<bool>
+    ensures { result ≡ opening class (λ s. (77 ∷ [])) state tokens.now }
+{
+    let current = state?;
+    if stands(tokens, COMMA) {
+        Some(current)
+    } else {
+        None
+    }
+}
+
+/// The arguments with one more, if one stands behind the comma.
+#[inline(always)]
+fn with_item(
+    arguments: Items<Argument>,
+    item: (Pos, Option<Argument>),
+) -> Result<Items<Argument>, AllocError>
+    ensures { IfOk result (λ all. all ≡ arguments ++ given (item ∷ [])) }
+{
+    let mut all = arguments;
+    match item.1 {
+        Some(argument) => {
+            all.push(argument)?;
+            Ok(all)
+        }
+        None => Ok(all),
+    }
 }
 
 #[tactic(auto, unfolding(py_ast::specs::Grammar::comma_item, py_ast::specs::Grammar::mapped))]
@@ -254,8 +271,32 @@ where
     Ok((((at, Some(argument)), Some(next)), rest))
 }
 
-#[tactic(auto, unfolding(py_ast::specs::Grammar::argument, py_ast::specs::Grammar::keyword_argument, py_ast::specs::Grammar::past, py_ast::specs::Grammar::mapped))]
+/// An argument, which must have a keyword where `keyword` says so. Most need none.
+#[tactic(auto, unfolding(py_ast::specs::Grammar::argument))]
 fn argument_by<'a, F>(
+    alloc: Global,
+    tokens: &'a [Token],
+    room: u8,
+    keyword: bool,
+    inner: &F,
+) -> Taken<'a, Argument>
+where
+    F: Fn(&[Token]) -> Taken<'_, Expr>,
+    requires can_call { F.IsAlwaysCallable inner.now }
+    requires reads { ReadsSome (λ ts r. F.post inner.now ts r) (nested room Whole).read }
+    ensures read { Gives (λ x. Read x.0 x.1.now) result ((argument (nested room Whole) keyword).read tokens.now) }
+    ensures shorter { IfOk result (λ x. length x.1.now < length tokens.now) }
+{
+    if keyword || stands(tokens, SUPER) {
+        return named_argument_by(alloc, tokens, room, keyword, inner);
+    }
+    plain_argument_by(alloc, tokens, room, inner)
+}
+
+/// An argument, whether it must have a keyword or not.
+#[inline(never)]
+#[tactic(auto, unfolding(py_ast::specs::Grammar::argument, py_ast::specs::Grammar::keyword_argument, py_ast::specs::Grammar::past, py_ast::specs::Grammar::mapped))]
+fn named_argument_by<'a, F>(
     alloc: Global,
     tokens: &'a [Token],
     room: u8,
