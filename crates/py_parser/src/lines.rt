@@ -190,13 +190,22 @@ fn all_further_of(
     )
 }
 
-/// The items, with room for one more, which was read up to `rest`: where a block ends there, for no other.
+/// Whether a block or the file ends here, so that no statement of it follows.
+#[inline(always)]
+fn ends_here(tokens: &[Token]) -> bool {
+    match tokens {
+        [first, ..] => class_of(first) == DEDENT,
+        [] => true,
+    }
+}
+
+/// The items, with room for one more, which was read up to `rest`: where a block or the file ends there, for no other.
 fn with_more_room<A: Drop>(before: Vec<A>, rest: &[Token]) -> Result<Vec<A>, AllocError>
     ensures items { IfOk result (λ all. all.items ≡ before.items) }
     ensures room { IfOk result (λ all. vec_len all < vec_capacity all) }
 {
     let mut all = before;
-    if stands(rest, DEDENT) {
+    if ends_here(rest) {
         all.reserve_exact(1)?;
         return Ok(all);
     }

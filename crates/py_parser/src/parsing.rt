@@ -9,7 +9,7 @@ ghost use Rattle.py_parser.specs.Refusals.{IsRefused, IsUnspelled};
 
 use crate::reading::{GrammarError, module_of_tokens};
 use py_ast::{Module, Parsed};
-use py_lexer::{Form, LexError, LexKind, Scratch, lex_with};
+use py_lexer::{Form, LexError, LexKind, Scratch, Token, Value, lex_with};
 use py_literals::place::Pos;
 use py_scopes::{ScopeError, scope_fault};
 use rv_names::{Name, Text};
@@ -65,6 +65,30 @@ fn from_scopes(error: ScopeError) -> FileError
     }
 }
 
+/// Drops the token, of which nothing is done but where its value holds a name or a text.
+#[inline(always)]
+fn drop_token(token: Token) {
+    let Token {
+        kind: _,
+        value,
+        at: _,
+    } = token;
+    match value {
+        Value::Name(name) => drop(name),
+        Value::Text(text) => drop(text),
+        Value::Nothing | Value::Whole(_) => {}
+    }
+}
+
+/// The room of the tokens, which are dropped.
+fn emptied(tokens: Vec<Token>) -> Vec<Token> {
+    let mut rest = tokens;
+    while let Some(token) = rest.pop() {
+        drop_token(token);
+    }
+    rest
+}
+
 /// The module that a text spells.
 fn module_of(alloc: Global, scratch: &mut Scratch, text: &str) -> Result<Module, FileError>
     requires { length text.now < 2 ^ 31 }
@@ -76,7 +100,7 @@ fn module_of(alloc: Global, scratch: &mut Scratch, text: &str) -> Result<Module,
         Err(error) => return Err(from_lexer(error)),
     };
     let answer = module_of_tokens(alloc, tokens.as_slice());
-    scratch.keep(tokens);
+    scratch.keep(emptied(tokens));
     match answer {
         Ok(module) => Ok(module),
         Err(error) => Err(from_grammar(error)),
