@@ -99,3 +99,18 @@ reads_last names all rest path r at is e =
     reads_all all path
     (e ∙ ap (λ z. names ++ z) (sym at) ∙ r.all)
     (ap (list_all is_ascii_identifier) e ∙ list_all-append is_ascii_identifier names (rest ∷ []) ∙ and_both _ _ r.ascii (and_both _ _ is refl))
+
+-- ---- whether all segments are identifiers, once those of the rest are
+
+pub identifiers_none : (rest path first : Bytes) (others : List Bytes) → list_all is_ascii_identifier (segments rest) ≡ list_all is_ascii_identifier (segments path) → segments rest ≡ first ∷ others → is_ascii_identifier first ≡ false → false ≡ list_all is_ascii_identifier (segments path)
+identifiers_none rest path first others same at is = ap (λ b. b && list_all is_ascii_identifier others) (sym is) ∙ ap (list_all is_ascii_identifier) (sym at) ∙ same
+
+pub identifiers_more : (rest path first : Bytes) (others : List Bytes) → list_all is_ascii_identifier (segments rest) ≡ list_all is_ascii_identifier (segments path) → segments rest ≡ first ∷ others → is_ascii_identifier first ≡ true → list_all is_ascii_identifier others ≡ list_all is_ascii_identifier (segments path)
+identifiers_more rest path first others same at is = ap (λ b. b && list_all is_ascii_identifier others) (sym is) ∙ ap (list_all is_ascii_identifier) (sym at) ∙ same
+
+pub identifiers_last : (rest path : Bytes) → list_all is_ascii_identifier (segments rest) ≡ list_all is_ascii_identifier (segments path) → segments rest ≡ rest ∷ [] → is_ascii_identifier rest ≡ list_all is_ascii_identifier (segments path)
+identifiers_last rest path same at = alone (is_ascii_identifier rest) ∙ ap (list_all is_ascii_identifier) (sym at) ∙ same
+  where
+    alone : (b : Bool) → b ≡ b && true
+    alone true = refl
+    alone false = refl

@@ -5,6 +5,8 @@ use Rattle.rv_names.specs.Keys.{Bytes, Parts, bytes_equal}
 use Rattle.taint_config.specs.Kinds.{is_ascii_identifier}
 use Rattle.project.specs.declared.path.PathKind.{PathKind}
 use Rattle.project.specs.declared.path.PathKind.TheVariants as kinds
+use Rattle.project.specs.declared.path.Place.{Place}
+use Rattle.project.specs.declared.path.Place.TheVariants as places
 use Rattle.project.specs.declared.neighbour.Neighbour.{Neighbour}
 use Rattle.project.specs.declared.neighbour.Neighbour.TheVariants.{Nobody, Hider, Hidden}
 
@@ -49,6 +51,12 @@ abbrev pub kind_of_path : Bytes → Option PathKind
 kind_of_path path =
     if bytes_equal path (codes "taint.config") then Some kinds.Config else (
     if ends_with eqb path models_end then Some kinds.Models else option_map kinds.Module (module_at path))
+
+-- the kind of file, without the name of the module
+abbrev pub place_of : PathKind → Place
+place_of kinds.Config = places.Config
+place_of kinds.Models = places.Models
+place_of (kinds.Module name) = places.Module
 
 -- ---- two files of one module
 

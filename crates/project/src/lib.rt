@@ -1,6 +1,6 @@
 //! The files of a project, and edits of them.
 //!
-//! * `path`: `kind_of_path`, what stands at a path;
+//! * `path`: `kind_of_path`, what stands at a path, and `place_of_path`, which kind of file that is;
 //! * `item`: an `Item`, what a file is read as;
 //! * `file`: a `File`, an item at a path;
 //! * `files`: `Files`, the live files, with their limits;
@@ -29,4 +29,4 @@ pub use faults::{FilesError, Which};
 pub use file::File;
 pub use files::Files;
 pub use item::Item;
-pub use path::{PathKind, kind_of_path};
+pub use path::{PathKind, Place, kind_of_path, place_of_path};

@@ -3,7 +3,7 @@
 ghost use Rattle.std.specs.Prelude.{◌≡◌, ◌==◌, IfOk, if◌then◌else◌, Some, None, option_map};
 ghost use Rattle.std.specs.List.{list_all};
 ghost use Rattle.taint_config.specs.Kinds.{continues_kind, is_ascii_identifier};
-ghost use Rattle.project.specs.Paths.{is_package, kind_of_path, module_at, module_name, names_in};
+ghost use Rattle.project.specs.Paths.{is_package, kind_of_path, module_at, module_name, names_in, place_of, segments};
 
 use crate::neighbour::{PYTHON_END, before};
 use rv_names::{Memory, Name, NameFault, QName};
@@ -18,6 +18,17 @@ pub enum PathKind {
     Models,
     /// The Python file of the module with this name.
     Module(QName),
+}
+
+/// Which kind of file may stand at a path.
+#[derive(Clone, Copy, Debug, PartialEq, Eq)]
+pub enum Place {
+    /// A Python file.
+    Module,
+    /// A model file.
+    Models,
+    /// The configuration.
+    Config,
 }
 
 fn continues(text: &str) -> bool
@@ -73,6 +84,20 @@ fn names_in(alloc: Global, path: &str) -> Result<Option<Vec<Name>>, Memory>
     }
 }
 
+/// Whether each of what stands between the slashes of a path is an identifier within ASCII: `names_in` gives names then.
+fn are_names(path: &str) -> bool
+    ensures { result ≡ list_all is_ascii_identifier (segments path.now) }
+{
+    let mut rest = path;
+    'each_name: while let Some((first, more)) = rest.split_once('/') {
+        if !is_ascii_identifier(first) {
+            return false;
+        }
+        rest = more;
+    }
+    is_ascii_identifier(rest)
+}
+
 /// Whether the names are those of a package's own file: `__init__` in a folder.
 fn is_package(names: &[Name]) -> bool
     ensures { result ≡ is_package names.now }
@@ -125,5 +150,30 @@ pub fn kind_of_path(alloc: Global, path: &str) -> Result<Option<PathKind>, Memor
     match module_at(alloc, path)? {
         None => Ok(None),
         Some(name) => Ok(Some(PathKind::Module(name))),
+    }
+}
+
+/// Which kind of file may stand at a path: `None` where nothing may.
+///
+/// It is the kind of what `kind_of_path` tells, and makes no name of a module: it takes no memory (Language Reference, 5.2).
+/// Linear in the path.
+pub fn place_of_path(path: &str) -> Option<Place>
+    ensures { result ≡ option_map place_of (kind_of_path path.now) }
+{
+    if path == "taint.config" {
+        return Some(Place::Config);
+    }
+    if path.ends_with(".pysa") {
+        return Some(Place::Models);
+    }
+    match before(path, PYTHON_END) {
+        None => None,
+        Some(stem) => {
+            if are_names(stem) {
+                Some(Place::Module)
+            } else {
+                None
+            }
+        }
     }
 }

@@ -1,6 +1,6 @@
 //! What no clause says: that the calls succeed, over paths and files by hand.
 
-use project::{Files, Item, PathKind, Which, kind_of_path};
+use project::{Files, Item, PathKind, Place, Which, kind_of_path, place_of_path};
 use py_ast::Modules;
 use rv_names::Text;
 use std::alloc::{AllocError, Global};
@@ -45,6 +45,32 @@ fn paths(rt: HostRuntime) -> Result<(), Fail> {
     ];
     for (path, kind) in &cases {
         assert_eq!(rt; kind_told(rt.alloc(), path)?.as_str(), *kind, "{path}");
+    }
+    Ok(())
+}
+
+#[test]
+fn places(rt: HostRuntime) -> Result<(), Fail> {
+    let cases = [
+        ("taint.config", Some(Place::Config)),
+        ("a/taint.config", None),
+        (".pysa", Some(Place::Models)),
+        ("//-.pysa", Some(Place::Models)),
+        ("app.py", Some(Place::Module)),
+        ("a/b_1/if.py", Some(Place::Module)),
+        ("a/b/__init__.py", Some(Place::Module)),
+        ("__init__.py", Some(Place::Module)),
+        (".py", None),
+        ("/a.py", None),
+        ("a//b.py", None),
+        ("a/1b.py", None),
+        ("a.b.py", None),
+        ("é.py", None),
+        ("a.pyi", None),
+        ("", None),
+    ];
+    for (path, place) in &cases {
+        assert_eq!(rt; place_of_path(path), *place, "{path}");
     }
     Ok(())
 }
