@@ -1,13 +1,13 @@
 //! What a file is.
 
-ghost use Rattle.std.specs.Prelude.{◌≡◌, ◌≢◌, ◌≤◌, IfOk, IfErr, Some, length};
+ghost use Rattle.std.specs.Prelude.{◌≡◌, ◌≢◌, ◌≤◌, IfOk, IfErr, length};
 ghost use Rattle.project.specs.Items.{Fits};
-ghost use Rattle.project.specs.Paths.{kind_of_path};
-ghost use Rattle.front.specs.Reading.{Accepted, FailsAs, FailsAsConfiguration, FailsAsModels, FailsAsPython, IsConfiguration, IsModels, IsPython, IsText, Misplaced, ReadsAs, Refused, Unread, file_limit};
+ghost use Rattle.front.specs.Reading.{Accepted, FailsAsConfiguration, FailsAsModels, FailsAsPython, IsConfiguration, IsModels, IsPython, IsText, Misplaced, Refused, Unread, file_limit};
+ghost use Rattle.front.specs.Places.{FailsAt, ReadsAt, StandsAs};
 ghost use Rattle.front.specs.declared.faults.ReadFault.TheVariants.{Memory};
 
 use crate::faults::ReadFault;
-use project::{Item, PathKind, kind_of_path};
+use project::{Item, Place, place_of_path};
 use py_lexer::Scratch;
 use py_parser::{FileError, parse_with};
 use pysa_syntax::{ModelError, read_models};
@@ -19,13 +19,13 @@ use taint_config::{ConfigError, read_config};
 /// The greatest number of bytes of a file, 1 MiB.
 const FILE_LIMIT: usize = 1_048_576;
 
-/// What stands at the path: `BadPath` where nothing may.
-fn kind_at(alloc: Global, path: &str) -> Result<PathKind, ReadFault>
-    ensures kind { IfOk result (λ kind. kind_of_path path.now ≡ Some kind) }
+/// Which kind of file may stand at the path: `BadPath` where none may.
+fn place_at(path: &str) -> Result<Place, ReadFault>
+    ensures place { IfOk result (StandsAs path.now) }
     ensures refused { IfErr result (λ fault. fault ≢ Memory → Misplaced path.now fault) }
 {
-    match kind_of_path(alloc, path)? {
-        Some(kind) => Ok(kind),
+    match place_of_path(path) {
+        Some(place) => Ok(place),
         None => Err(ReadFault::BadPath),
     }
 }
@@ -87,17 +87,17 @@ fn config_item(alloc: Global, bytes: &[u8]) -> Result<Item, ReadFault>
 fn item_as(
     alloc: Global,
     scratch: &mut Scratch,
-    kind: &PathKind,
+    place: Place,
     text: &str,
 ) -> Result<Item, ReadFault>
     requires { length text.now ≤ file_limit }
-    ensures accepted { IfOk result (ReadsAs kind.now text.now) }
-    ensures refused { IfErr result (λ fault. fault ≢ Memory → FailsAs kind.now text.now fault) }
+    ensures accepted { IfOk result (ReadsAt place text.now) }
+    ensures refused { IfErr result (λ fault. fault ≢ Memory → FailsAt place text.now fault) }
 {
-    match kind {
-        PathKind::Config => config_item(alloc, text.as_bytes()),
-        PathKind::Models => models_item(alloc, text),
-        PathKind::Module(_) => module_item(alloc, scratch, text),
+    match place {
+        Place::Module => module_item(alloc, scratch, text),
+        Place::Models => models_item(alloc, text),
+        Place::Config => config_item(alloc, text.as_bytes()),
     }
 }
 
@@ -133,7 +133,7 @@ pub fn read_file_with(
     ensures fits { IfOk result (Fits path.now) }
     ensures refused { IfErr result (λ fault. fault ≢ Memory → Refused path.now bytes.now fault) }
 {
-    let kind = kind_at(alloc, path)?;
+    let place = place_at(path)?;
     let text = text_of(bytes)?;
-    item_as(alloc, scratch, &kind, text)
+    item_as(alloc, scratch, place, text)
 }
