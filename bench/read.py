@@ -3,9 +3,10 @@
 
 Every file that is accepted is put once, and then functions and classes of the library's top levels, each as a file of its own, until there are
 5 MiB. Prints the ratio of the times (the aim is a tenth, at most a fifth), how the time grows when all is put twice (at most 2.2 times),
-and how much memory a stream takes that puts one file again and again, beside one that puts it once. Times are processor seconds, the least of
-five runs of each, which take turns, so that what else the machine does meets all of them alike; ours have the start of the process and the
-reading of standard input in them.
+and how much memory a stream takes that puts one file again and again, beside one that puts it once. Times are processor seconds of eleven runs
+of each, which take turns, so that what else the machine does meets all of them alike; ours have the start of the process and the reading of
+standard input in them. A ratio is the median of those of the turns: the least times of each, found in moments that differ, make a ratio that
+changes by a third from run to run on a machine with neighbours.
 """
 
 import ast
@@ -14,10 +15,11 @@ import resource
 import subprocess
 import sys
 import warnings
+from statistics import median
 
 sys.path.insert(0, os.path.join(os.path.dirname(os.path.abspath(__file__)), "..", "tests"))
 from real_python import files, texts_of  # noqa: E402
-from timing import least, program  # noqa: E402
+from timing import program, turns  # noqa: E402
 
 MEBIBYTE = 1 << 20
 
@@ -82,12 +84,15 @@ def main():
         if not all(line.startswith(b"edit ") for line in lines[:-2]):
             sys.exit("read: a text is refused")
 
-    one, two, cpython = least(
-        ((lambda: ours(once), resource.RUSAGE_CHILDREN), (lambda: ours(twice), resource.RUSAGE_CHILDREN), (theirs, resource.RUSAGE_SELF)), 5
+    rounds = turns(
+        ((lambda: ours(once), resource.RUSAGE_CHILDREN), (lambda: ours(twice), resource.RUSAGE_CHILDREN), (theirs, resource.RUSAGE_SELF)), 11
     )
+    one, _, cpython = (median(each) for each in zip(*rounds))
+    ratios = sorted(long / short for short, _, long in rounds)
+    growth = median(two / short for short, two, _ in rounds)
     print(f"read: {total / MEBIBYTE:.1f} MiB in {len(texts)} texts in {one:.3f} s, {total / MEBIBYTE / one:.1f} MiB a second")
-    print(f"read: CPython's ast.parse {cpython:.2f} s, so check takes 1/{cpython / one:.1f} of it")
-    print(f"read: all put twice takes {two / one:.2f} times as long")
+    print(f"read: CPython's ast.parse {cpython:.2f} s; check takes 1/{median(ratios):.1f} of it, in single turns 1/{ratios[0]:.1f} to 1/{ratios[-1]:.1f}")
+    print(f"read: all put twice takes {growth:.2f} times as long")
     large = b"x = 1\n" * (MEBIBYTE // 6)
     few, many = (b"".join(b"put a.py %d\n%s\n" % (len(large), large) for _ in range(count)) + b"end\n" for count in (4, 60))
     print(f"read: 60 puts of one file of 1 MiB take {peak(review, many) / peak(review, few):.2f} times the memory of 4")

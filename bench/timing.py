@@ -1,4 +1,4 @@
-"""What the measurements share: the program, and the least processor time of some runs."""
+"""What the measurements share: the program, and the processor times of some runs."""
 
 import os
 import resource
@@ -30,7 +30,11 @@ def best(run, whose, times):
     return min(taken(run, whose) for _ in range(times))
 
 
+def turns(runs, times):
+    """The processor times of several runs, in seconds, which take turns so many times: a list for each turn."""
+    return [[taken(run, whose) for run, whose in runs] for _ in range(times)]
+
+
 def least(runs, times):
     """The least processor time of each of several runs, in seconds, where they take turns so many times."""
-    rounds = [[taken(run, whose) for run, whose in runs] for _ in range(times)]
-    return [min(each) for each in zip(*rounds)]
+    return [min(each) for each in zip(*turns(runs, times))]
