@@ -16,8 +16,9 @@ use crate::class::{
     LEFT_BRACKET, LEFT_PAREN, RIGHT_BRACE, RIGHT_BRACKET, RIGHT_PAREN, TEXT, begins_part,
     begins_string, class_of,
 };
-use crate::inner::{closed_items_by, nested_by};
+use crate::inner::{closed_items_by, nested_by, past_by};
 use crate::parts::{stands_expr, stands_leaf};
+use crate::steps::with;
 use crate::strings::as_strings;
 use crate::token::{Taken, leaf_here, make_leaf, mark, open, part_text_token, stands, text_token};
 use phrases::{Stop, many, series};
@@ -144,7 +145,7 @@ where
         return Ok((None, rest));
     }
     let (items, rest) = pairs_by(alloc, tokens, room, inner)?;
-    let (_, rest) = mark(rest, RIGHT_BRACE)?;
+    let ((items, _), rest) = with(items, mark(rest, RIGHT_BRACE))?;
     Ok((Some(items), rest))
 }
 
@@ -163,7 +164,7 @@ where
     ensures shorter { IfOk result (λ x. length x.1.now < length tokens.now) }
 {
     let (first, rest) = pair_by(alloc, tokens, room, inner)?;
-    let (others, rest) = further_pairs_by(alloc, rest, room, inner)?;
+    let ((first, others), rest) = with(first, further_pairs_by(alloc, rest, room, inner))?;
     Ok(((first, others), rest))
 }
 
@@ -220,7 +221,7 @@ where
     Ok((((at, Some(pair)), Some(())), rest))
 }
 
-#[tactic(auto, unfolding(py_ast::specs::Grammar::pair, py_ast::specs::Grammar::past))]
+#[tactic(auto, unfolding(py_ast::specs::Grammar::pair))]
 fn pair_by<'a, F>(alloc: Global, tokens: &'a [Token], room: u8, inner: &F) -> Taken<'a, Pair>
 where
     F: Fn(&[Token]) -> Taken<'_, Expr>,
@@ -230,8 +231,7 @@ where
     ensures shorter { IfOk result (λ x. length x.1.now < length tokens.now) }
 {
     let (key, rest) = nested_by(tokens, room, inner)?;
-    let (_, rest) = mark(rest, COLON)?;
-    let (value, rest) = nested_by(rest, room, inner)?;
+    let ((key, value), rest) = with(key, past_by(rest, COLON, room, inner))?;
     Ok((Pair { key, value }, rest))
 }
 
@@ -345,6 +345,6 @@ where
     }
     let (_, rest) = open(tokens, FIELD_OPEN, room)?;
     let (value, rest) = nested_by(rest, room, inner)?;
-    let (_, rest) = mark(rest, FIELD_CLOSE)?;
+    let ((value, _), rest) = with(value, mark(rest, FIELD_CLOSE))?;
     Ok((Part::Field(value), rest))
 }

@@ -3,6 +3,7 @@
 ghost use Rattle.std.specs.Prelude.{◌≡◌, ◌∷◌, [], List, Option, Some, None, IfOk};
 ghost use Rattle.py_ast.specs.Trees.{tuple_of, parenthesized_of, given, optional_items, binary_of, comparison_of, and_of, or_of, power_of, conditional_of, postfix_of, argument_of, enclose};
 
+use crate::steps::{boxed_three, boxed_two, replaced};
 use crate::token::make_leaf;
 use py_ast::{
     Argument, Compared, Expr, Form, Joined, NameAt, Operand, Step, anchor_after, given_after,
@@ -183,7 +184,8 @@ pub fn as_power(
         None => Ok(base),
         Some((node, exponent)) => {
             let start = base.start;
-            let form = Form::Power(Boxed::new(alloc, base)?, Boxed::new(alloc, exponent)?);
+            let (base, exponent) = boxed_two(alloc, base, exponent)?;
+            let form = Form::Power(base, exponent);
             Ok(Expr {
                 node,
                 start,
@@ -207,11 +209,8 @@ pub fn as_conditional(
         None => Ok(value),
         Some((node, condition, otherwise)) => {
             let start = value.start;
-            let form = Form::Conditional(
-                Boxed::new(alloc, value)?,
-                Boxed::new(alloc, condition)?,
-                Boxed::new(alloc, otherwise)?,
-            );
+            let (value, condition, otherwise) = boxed_three(alloc, value, condition, otherwise)?;
+            let form = Form::Conditional(value, condition, otherwise);
             Ok(Expr {
                 node,
                 start,
@@ -247,14 +246,6 @@ pub fn as_postfix(alloc: Global, base: Expr, steps: Items<Step>) -> Result<Expr,
 pub fn as_argument(first: Expr, keyword: Option<(NameAt, Expr)>) -> Argument
     ensures { result ≡ argument_of first keyword }
 {
-    match keyword {
-        None => Argument {
-            keyword: None,
-            value: first,
-        },
-        Some((name, value)) => Argument {
-            keyword: Some(name),
-            value,
-        },
-    }
+    let (keyword, value) = replaced(first, keyword);
+    Argument { keyword, value }
 }

@@ -14,7 +14,7 @@ ghost use Rattle.phrases.specs.Nesting.{never};
 ghost use Rattle.phrases.specs.Loops.{Gives};
 ghost use Rattle.py_ast.specs.Kinds.{class};
 ghost use Rattle.py_ast.specs.Tokens.{unary_codes};
-ghost use Rattle.py_ast.specs.Grammar.{expr_first, primary, exponent, power, binary, comparison, conjunction, disjunction, choice, exprs, Whole, Inversion, Factor, nested, shaped, expr};
+ghost use Rattle.py_ast.specs.Grammar.{expr_first, primary, exponent, power, binary, comparison, conjunction, disjunction, otherwise, choice, exprs, Whole, Inversion, Factor, nested, shaped, expr};
 
 use crate::build::{as_conditional, as_power};
 use crate::class::{DOUBLE_STAR, ELSE, IF, NOT, begins_expr, class_of};
@@ -26,6 +26,7 @@ use crate::parts::{
     stands_wider,
 };
 use crate::primary::primary_by;
+use crate::steps::with;
 use crate::strings::text_here;
 use crate::token::{Taken, leaf_here, make_leaf, mark, open, open_unary, stands};
 use phrases::{Fault, Stop};
@@ -107,13 +108,13 @@ fn expr_from(alloc: Global, first: Expr, tokens: &[Token], room: u8) -> Taken<'_
     ensures no_longer { IfOk result (λ x. length x.1.now ≤ length tokens.now) }
 {
     let (value, rest) = disjunction_from(alloc, first, tokens, room)?;
-    let (choice, rest) = choice_of(alloc, rest, room)?;
+    let ((value, choice), rest) = with(value, choice_of(alloc, rest, room))?;
     Ok((as_conditional(alloc, value, choice)?, rest))
 }
 
 /// The condition and the other value of a conditional, if it is one.
 #[cycle(expr)]
-#[tactic(auto, using(crate::proofs::Nestings::nested_is), unfolding(py_ast::specs::Grammar::choice, py_ast::specs::Grammar::otherwise))]
+#[tactic(auto, unfolding(py_ast::specs::Grammar::choice))]
 fn choice_of(alloc: Global, tokens: &[Token], room: u8) -> Taken<'_, Option<(Pos, Expr, Expr)>>
     ensures read { Gives (λ x. Read x.0 x.1.now) result ((choice room (disjunction (conjunction (shaped Inversion room))) (nested room Whole)).read tokens.now) }
     ensures no_longer { IfOk result (λ x. length x.1.now ≤ length tokens.now) }
@@ -123,9 +124,20 @@ fn choice_of(alloc: Global, tokens: &[Token], room: u8) -> Taken<'_, Option<(Pos
     }
     let (at, rest) = mark(tokens, IF)?;
     let (condition, rest) = disjunction_of(alloc, rest, room)?;
-    let (_, rest) = open(rest, ELSE, room)?;
-    let (otherwise, rest) = expr_of(alloc, rest, room - 1)?;
+    let ((condition, otherwise), rest) = with(condition, otherwise_of(alloc, rest, room))?;
     Ok((Some((at, condition, otherwise)), rest))
+}
+
+/// The other value of a conditional, behind its `else`.
+#[cycle(expr)]
+#[tactic(auto, using(crate::proofs::Nestings::nested_is), unfolding(py_ast::specs::Grammar::otherwise))]
+fn otherwise_of(alloc: Global, tokens: &[Token], room: u8) -> Taken<'_, Expr>
+    ensures read { Gives (λ x. Read x.0 x.1.now) result ((otherwise room (nested room Whole)).read tokens.now) }
+    ensures shorter { IfOk result (λ x. length x.1.now < length tokens.now) }
+{
+    let (_, rest) = open(tokens, ELSE, room)?;
+    let (value, rest) = expr_of(alloc, rest, room - 1)?;
+    Ok((value, rest))
 }
 
 /// Operands of `or`, or one alone.
@@ -244,7 +256,7 @@ fn power_from(alloc: Global, base: Expr, tokens: &[Token], room: u8) -> Taken<'_
     ensures read { (ts : List Token) → (primary room (nested room Whole)).read ts ≡ Read base tokens.now → Gives (λ x. Read x.0 x.1.now) result ((power room (nested room Whole) (nested room Factor)).read ts) }
     ensures no_longer { IfOk result (λ x. length x.1.now ≤ length tokens.now) }
 {
-    let (exponent, rest) = exponent_of(alloc, tokens, room)?;
+    let ((base, exponent), rest) = with(base, exponent_of(alloc, tokens, room))?;
     Ok((as_power(alloc, base, exponent)?, rest))
 }
 

@@ -9,12 +9,13 @@ ghost use Rattle.phrases.specs.Reading.{Read};
 ghost use Rattle.phrases.specs.Phrases.{token, nothing, sequence, either};
 ghost use Rattle.phrases.specs.Loops.{Gives};
 ghost use Rattle.py_ast.specs.Kinds.{class, mark_of};
-ghost use Rattle.py_ast.specs.Grammar.{mapped, ended, second, expr_first, comma_item, comma_items, goes_past, items, exprs, Whole, nested};
+ghost use Rattle.py_ast.specs.Grammar.{mapped, past, ended, second, expr_first, comma_item, comma_items, goes_past, items, exprs, Whole, nested};
 ghost use Rattle.py_expr.specs.Readers.{ReadsSome};
 
 use crate::build::as_tuple;
 use crate::class::COMMA;
 use crate::parts::stands_expr;
+use crate::steps::with;
 use crate::token::{Taken, is_of, mark, stands};
 use phrases::series;
 use py_ast::Expr;
@@ -33,6 +34,21 @@ where
     ensures shorter { IfOk result (λ x. length x.1.now < length tokens.now) }
 {
     inner(tokens)
+}
+
+/// The expression that stands in a nesting behind a token of this class.
+#[tactic(auto, unfolding(py_ast::specs::Grammar::past))]
+pub fn past_by<'a, F>(tokens: &'a [Token], code: u8, room: u8, inner: &F) -> Taken<'a, Expr>
+where
+    F: Fn(&[Token]) -> Taken<'_, Expr>,
+    requires can_call { F.IsAlwaysCallable inner.now }
+    requires reads { ReadsSome (λ ts r. F.post inner.now ts r) (nested room Whole).read }
+    ensures read { Gives (λ x. Read x.0 x.1.now) result ((past code (nested room Whole)).read tokens.now) }
+    ensures shorter { IfOk result (λ x. length x.1.now < length tokens.now) }
+{
+    let (_, rest) = mark(tokens, code)?;
+    let (value, rest) = nested_by(rest, room, inner)?;
+    Ok((value, rest))
 }
 
 /// Expressions between commas: a tuple where there is a comma.
@@ -69,7 +85,7 @@ where
     ensures read { (ts : List Token) → (nested room Whole).read ts ≡ Read first tokens.now → Gives (λ x. Read x.0 x.1.now) result ((exprs (nested room Whole)).read ts) }
     ensures no_longer { IfOk result (λ x. length x.1.now ≤ length tokens.now) }
 {
-    let (others, rest) = further_items_by(alloc, tokens, room, inner)?;
+    let ((first, others), rest) = with(first, further_items_by(alloc, tokens, room, inner))?;
     Ok((as_tuple(alloc, first, others)?, rest))
 }
 
@@ -89,7 +105,7 @@ where
     ensures shorter { IfOk result (λ x. length x.1.now < length tokens.now) }
 {
     let (first, rest) = nested_by(tokens, room, inner)?;
-    let (others, rest) = further_items_by(alloc, rest, room, inner)?;
+    let ((first, others), rest) = with(first, further_items_by(alloc, rest, room, inner))?;
     Ok(((first, others), rest))
 }
 
@@ -167,6 +183,6 @@ where
         return Ok((None, rest));
     }
     let (items, rest) = items_by(alloc, tokens, room, inner)?;
-    let (_, rest) = mark(rest, right)?;
+    let ((items, _), rest) = with(items, mark(rest, right))?;
     Ok((Some(items), rest))
 }

@@ -12,6 +12,7 @@
 //! * `class`: the classes of tokens, as one token of lookahead tells them;
 //! * `token`: single tokens;
 //! * `build`: the nodes of productions, made of their parts;
+//! * `steps`: what waits while more is read, for values of any type;
 //! * `strings`: strings in a row;
 //! * `laws`: what holds of the answers.
 #![tactic(auto)]
@@ -28,6 +29,7 @@ mod operator;
 pub mod parts;
 mod primary;
 pub mod reading;
+mod steps;
 pub mod strings;
 pub mod token;
 

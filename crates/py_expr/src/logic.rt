@@ -11,6 +11,7 @@ ghost use Rattle.py_expr.specs.Readers.{ReadsSome};
 
 use crate::build::{as_and, as_or};
 use crate::class::{AND, OR, class_of};
+use crate::steps::with;
 use crate::token::{Taken, mark};
 use phrases::many;
 use py_ast::{Expr, Joined};
@@ -46,9 +47,8 @@ where
     ensures read { (ts : List Token) → (shaped Inversion room).read ts ≡ Read first tokens.now → Gives (λ x. Read x.0 x.1.now) result ((disjunction (conjunction (shaped Inversion room))).read ts) }
     ensures no_longer { IfOk result (λ x. length x.1.now ≤ length tokens.now) }
 {
-    let (others, rest) = conditions_by(alloc, tokens, room, &inversion)?;
-    let first = as_and(alloc, first, others)?;
-    let (others, rest) = alternatives_by(alloc, rest, room, &inversion)?;
+    let (first, rest) = conjunction_from(alloc, first, tokens, room, &inversion)?;
+    let ((first, others), rest) = with(first, alternatives_by(alloc, rest, room, &inversion))?;
     Ok((as_or(alloc, first, others)?, rest))
 }
 
@@ -114,7 +114,26 @@ where
     ensures shorter { IfOk result (λ x. length x.1.now < length tokens.now) }
 {
     let (first, rest) = inversion_by(tokens, room, inversion)?;
-    let (others, rest) = conditions_by(alloc, rest, room, inversion)?;
+    conjunction_from(alloc, first, rest, room, inversion)
+}
+
+/// Operands of `and`, or one alone, where the first inversion was read and the tokens begin behind it.
+#[tactic(auto, unfolding(py_ast::specs::Grammar::conjunction))]
+fn conjunction_from<'a, F>(
+    alloc: Global,
+    first: Expr,
+    tokens: &'a [Token],
+    room: u8,
+    inversion: &F,
+) -> Taken<'a, Expr>
+where
+    F: Fn(&[Token]) -> Taken<'_, Expr>,
+    requires can_call { F.IsAlwaysCallable inversion.now }
+    requires reads { ReadsSome (λ ts r. F.post inversion.now ts r) (shaped Inversion room).read }
+    ensures read { (ts : List Token) → (shaped Inversion room).read ts ≡ Read first tokens.now → Gives (λ x. Read x.0 x.1.now) result ((conjunction (shaped Inversion room)).read ts) }
+    ensures no_longer { IfOk result (λ x. length x.1.now ≤ length tokens.now) }
+{
+    let ((first, others), rest) = with(first, conditions_by(alloc, tokens, room, inversion))?;
     Ok((as_and(alloc, first, others)?, rest))
 }
 

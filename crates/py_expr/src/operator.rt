@@ -3,11 +3,11 @@
 //! The levels of binary operators are numbered from the tightest on. A factor was read before any level is looked at, so each
 //! level goes on behind what the tighter ones made, and no level is entered but where its operator stands.
 
-ghost use Rattle.std.specs.Prelude.{◌≡◌, ◌<◌, ◌≤◌, List, IfOk, length};
+ghost use Rattle.std.specs.Prelude.{◌≡◌, ◌+◌, ◌<◌, ◌≤◌, ℕ, List, IfOk, IfErr, length};
 ghost use Rattle.phrases.specs.Sets.{has};
 ghost use Rattle.phrases.specs.Reading.{Read};
 ghost use Rattle.phrases.specs.Phrases.{many};
-ghost use Rattle.phrases.specs.Loops.{Gives};
+ghost use Rattle.phrases.specs.Loops.{Gives, Fails};
 ghost use Rattle.py_ast.specs.Kinds.{class};
 ghost use Rattle.py_ast.specs.Tokens.{level_codes};
 ghost use Rattle.py_ast.specs.Grammar.{comparison_first, operand, binary, compared, comparison, Factor, shaped};
@@ -16,6 +16,7 @@ ghost use Rattle.py_expr.specs.Readers.{ReadsSome};
 use crate::build::{as_binary, as_comparison};
 use crate::class::{begins_comparison, begins_operand, class_of};
 use crate::parts::{comparator_of, stands_operand};
+use crate::steps::with;
 use crate::token::{Taken, binary_token};
 use phrases::many;
 use py_ast::{Compared, Expr, Operand};
@@ -52,7 +53,7 @@ where
     ensures no_longer { IfOk result (λ x. length x.1.now ≤ length tokens.now) }
 {
     let (first, rest) = binary_from(alloc, first, tokens, room, 6, &factor)?;
-    let (others, rest) = all_compared_by(alloc, rest, room, &factor)?;
+    let ((first, others), rest) = with(first, all_compared_by(alloc, rest, room, &factor))?;
     Ok((as_comparison(alloc, first, others)?, rest))
 }
 
@@ -153,12 +154,36 @@ where
     let mut rest = tokens;
     for level in 0..levels {
         if stands_operand(rest, level) {
-            let (operands, after) = operands_by(alloc, rest, room, level, factor)?;
-            value = as_binary(alloc, value, operands)?;
+            let (joined, after) = level_from(alloc, value, rest, room, level, factor)?;
+            value = joined;
             rest = after;
         }
     }
     Ok((value, rest))
+}
+
+/// Operands of one level more, where those of the tighter levels were read and the tokens begin behind them.
+#[cycle(binary)]
+#[tactic(auto, using(crate::proofs::Alone::binary_next, crate::proofs::Alone::binary_stops))]
+fn level_from<'a, F>(
+    alloc: Global,
+    first: Expr,
+    tokens: &'a [Token],
+    room: u8,
+    level: u8,
+    factor: &F,
+) -> Taken<'a, Expr>
+where
+    F: Fn(&[Token]) -> Taken<'_, Expr>,
+    requires can_call { F.IsAlwaysCallable factor.now }
+    requires reads { ReadsSome (λ ts r. F.post factor.now ts r) (shaped Factor room).read }
+    requires known { level < 6 }
+    ensures read { (ts : List Token) → (binary level (shaped Factor room)).read ts ≡ Read first tokens.now → IfOk result (λ x. (binary (level + 1) (shaped Factor room)).read ts ≡ Read x.0 x.1.now) }
+    ensures stops { (ts : List Token) (levels : ℕ) → level < levels → (binary level (shaped Factor room)).read ts ≡ Read first tokens.now → IfErr result (λ stop. Fails stop ((binary levels (shaped Factor room)).read ts)) }
+    ensures no_longer { IfOk result (λ x. length x.1.now ≤ length tokens.now) }
+{
+    let ((first, operands), rest) = with(first, operands_by(alloc, tokens, room, level, factor))?;
+    Ok((as_binary(alloc, first, operands)?, rest))
 }
 
 /// What follows the first operand of a level: its operators, each with the operand behind it.

@@ -16,8 +16,9 @@ use crate::class::{
     COMMA, DOT, EQUAL, LEFT_BRACKET, LEFT_PAREN, RIGHT_BRACKET, RIGHT_PAREN, SUPER, begins_step,
     code_of,
 };
-use crate::inner::{exprs_by, nested_by};
+use crate::inner::{exprs_by, nested_by, past_by};
 use crate::parts::{attribute_of, stands_argument, stands_step};
+use crate::steps::with;
 use crate::token::{Taken, mark, name_token, open, stands, super_token};
 use phrases::{Stop, series};
 use py_ast::{Argument, Expr, NameAt, Step, StepForm};
@@ -64,7 +65,7 @@ where
     ensures no_longer { IfOk result (λ x. length x.1.now ≤ length tokens.now) }
 {
     let callable = base.is_callee();
-    let (steps, rest) = chain_by(alloc, tokens, room, callable, inner)?;
+    let ((base, steps), rest) = with(base, chain_by(alloc, tokens, room, callable, inner))?;
     Ok((as_postfix(alloc, base, steps)?, rest))
 }
 
@@ -138,7 +139,7 @@ where
 {
     let (node, rest) = open(tokens, LEFT_BRACKET, room)?;
     let (index, rest) = exprs_by(alloc, rest, room, inner)?;
-    let (_, rest) = mark(rest, RIGHT_BRACKET)?;
+    let ((index, _), rest) = with(index, mark(rest, RIGHT_BRACKET))?;
     let form = StepForm::Subscript(Boxed::new(alloc, index)?);
     Ok((Step { node, form }, rest))
 }
@@ -204,9 +205,9 @@ where
     Ok((Step { node, form }, behind))
 }
 
-/// A list that begins with an argument, with room for that alone where no more follow.
+/// A list that begins with this item, with room for that alone where no more follow.
 #[inline(always)]
-fn begun_list(alloc: Global, first: Argument, more: bool) -> Result<Items<Argument>, AllocError>
+fn begun_list<A: Drop>(alloc: Global, first: A, more: bool) -> Result<Items<A>, AllocError>
     ensures { IfOk result (λ all. all ≡ first ∷ []) }
 {
     let room = if more { FEW } else { 1 };
@@ -395,7 +396,8 @@ where
     ensures read { (ts : List Token) → (nested room Whole).read ts ≡ Read first tokens.now → Gives (λ x. Read x.0 x.1.now) result ((sequence (nested room Whole) (λ e. after_argument (nested room Whole) (bare_name e)) argument_of).read ts) }
     ensures no_longer { IfOk result (λ x. length x.1.now ≤ length tokens.now) }
 {
-    let (keyword, rest) = keyword_behind(alloc, &first, tokens, room, inner)?;
+    let keyword = keyword_behind(alloc, &first, tokens, room, inner);
+    let ((first, keyword), rest) = with(first, keyword)?;
     Ok((as_argument(first, keyword), rest))
 }
 
@@ -426,7 +428,7 @@ where
 }
 
 #[inline(never)]
-#[tactic(auto, unfolding(py_ast::specs::Grammar::after_argument, py_ast::specs::Grammar::past, py_ast::specs::Grammar::mapped))]
+#[tactic(auto, unfolding(py_ast::specs::Grammar::after_argument, py_ast::specs::Grammar::mapped))]
 fn after_argument_by<'a, F>(
     alloc: Global,
     tokens: &'a [Token],
@@ -443,8 +445,7 @@ where
 {
     match name {
         Some(name) if stands(tokens, EQUAL) => {
-            let (_, rest) = mark(tokens, EQUAL)?;
-            let (value, rest) = nested_by(rest, room, inner)?;
+            let ((name, value), rest) = with(name, past_by(tokens, EQUAL, room, inner))?;
             Ok((Some((name, value)), rest))
         }
         _ => Ok((None, tokens)),

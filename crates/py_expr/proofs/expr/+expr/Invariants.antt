@@ -19,6 +19,9 @@ decreases-expr_from l = 32 * l.room + 14
 abbrev pub decreases-choice_of : goal.decreases-choice_of
 decreases-choice_of l = 32 * l.room + 12
 
+abbrev pub decreases-otherwise_of : goal.decreases-otherwise_of
+decreases-otherwise_of l = 32 * l.room + 11
+
 abbrev pub decreases-disjunction_of : goal.decreases-disjunction_of
 decreases-disjunction_of l = 32 * l.room + 11
 

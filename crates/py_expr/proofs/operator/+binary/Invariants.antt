@@ -10,6 +10,9 @@ decreases-binary_by g l = 8 * l.levels + 1
 abbrev pub decreases-binary_from : goal.decreases-binary_from
 decreases-binary_from g l = 8 * l.levels
 
+abbrev pub decreases-level_from : goal.decreases-level_from
+decreases-level_from g l = 8 * l.level + 5
+
 abbrev pub decreases-operands_by : goal.decreases-operands_by
 decreases-operands_by g l = 8 * l.level + 4
 
