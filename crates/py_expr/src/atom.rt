@@ -137,7 +137,7 @@ where
     F: Fn(&[Token]) -> Taken<'_, Expr>,
     requires can_call { F.IsAlwaysCallable inner.now }
     requires reads { ReadsSome (λ ts r. F.post inner.now ts r) (nested room Whole).read }
-    ensures read { Gives (λ x. Read x.0 x.1.now) result ((either class expr_first (mapped (ended (pairs (nested room Whole)) 76) Some) (sequence (token (mark_of 76)) (λ c. nothing None) second)).read tokens.now) }
+    ensures read { Gives (λ x. Read x.0 x.1.now) result ((either class expr_first (mapped (ended (pairs (nested room Whole)) RIGHT_BRACE) Some) (sequence (token (mark_of RIGHT_BRACE)) (λ c. nothing None) second)).read tokens.now) }
     ensures shorter { IfOk result (λ x. length x.1.now < length tokens.now) }
 {
     if !stands_expr(tokens) {
@@ -186,7 +186,7 @@ where
         tokens,
         (),
         |_state: (), token: &Token|
-            ensures { result ≡ has (77 ∷ []) (class token.now) }
+            ensures { result ≡ has (COMMA ∷ []) (class token.now) }
         { class_of(token) == COMMA },
         |_state: (), rest: &[Token]|
             requires can_call { F.IsAlwaysCallable inner.now }

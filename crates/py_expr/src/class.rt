@@ -1,4 +1,7 @@
-//! The classes of tokens, as numbers: what one token of lookahead tells.
+//! The classes of tokens: what one token of lookahead tells.
+//!
+//! `py_ast` defines them as numbers, so that sets of them are told apart by computing. Here each has its name, and its number is made of its
+//! kind: no number of a class stands anywhere else in code, and in no clause.
 
 ghost use Rattle.std.specs.Prelude.{◌≡◌, ◌<◌, ◌∷◌, [], ℕ, true, false};
 ghost use Rattle.phrases.specs.Sets.{has};
@@ -8,105 +11,184 @@ ghost use Rattle.py_ast.specs.Grammar.{string_first, atom_first, factor_first, e
 
 use py_lexer::{Kind, Token, Value};
 
+/// No class: a token without the value that its kind asks for, and a kind whose tokens have their class by their value.
+const NONE_OF_THEM: u8 = 0;
+
+/// The classes of kinds follow the kinds, from this number on.
+const FIRST: u8 = 2;
+
+/// A name but `super`.
 pub const NAME: u8 = 1;
 
+/// The name `super`.
 pub const SUPER: u8 = 2;
 
+/// A whole number.
 pub const NUMBER: u8 = 3;
 
+/// A string that isn't formatted.
 pub const TEXT: u8 = 4;
 
-pub const F_STRING_TEXT: u8 = 11;
+/// The end of a logical line.
+pub const NEWLINE: u8 = 5;
 
-pub const F_STRING_START: u8 = 10;
+/// The beginning of an indented block.
+pub const INDENT: u8 = NEWLINE + Kind::Indent as u8;
 
-pub const F_STRING_END: u8 = 14;
+/// The end of an indented block.
+pub const DEDENT: u8 = NEWLINE + Kind::Dedent as u8;
 
-pub const FIELD_OPEN: u8 = 12;
+/// A floating point or imaginary number.
+const FLOAT: u8 = 8;
 
-pub const FIELD_CLOSE: u8 = 13;
+pub const F_STRING_START: u8 = Kind::FStringStart as u8 + FIRST;
 
-pub const AND: u8 = 18;
+/// A text between the fields of a formatted string.
+pub const F_STRING_TEXT: u8 = Kind::FStringText as u8 + FIRST;
 
-pub const OR: u8 = 42;
+pub const FIELD_OPEN: u8 = Kind::FieldOpen as u8 + FIRST;
 
-pub const NOT: u8 = 41;
+pub const FIELD_CLOSE: u8 = Kind::FieldClose as u8 + FIRST;
 
-pub const IF: u8 = 35;
+pub const F_STRING_END: u8 = Kind::FStringEnd as u8 + FIRST;
 
-pub const ELSE: u8 = 29;
+pub const FALSE: u8 = Kind::False as u8 + FIRST;
 
-pub const IN: u8 = 37;
+pub const NONE: u8 = Kind::None as u8 + FIRST;
 
-pub const IS: u8 = 38;
+pub const TRUE: u8 = Kind::True as u8 + FIRST;
 
-pub const PLUS: u8 = 50;
+pub const AND: u8 = Kind::And as u8 + FIRST;
 
-pub const MINUS: u8 = 51;
+pub const AS: u8 = Kind::As as u8 + FIRST;
 
-pub const STAR: u8 = 52;
+pub const ASSERT: u8 = Kind::Assert as u8 + FIRST;
 
-pub const DOUBLE_STAR: u8 = 53;
+pub const BREAK: u8 = Kind::Break as u8 + FIRST;
 
-pub const SLASH: u8 = 54;
+pub const CLASS: u8 = Kind::Class as u8 + FIRST;
 
-pub const DOUBLE_SLASH: u8 = 55;
+pub const CONTINUE: u8 = Kind::Continue as u8 + FIRST;
 
-pub const PERCENT: u8 = 56;
+pub const DEF: u8 = Kind::Def as u8 + FIRST;
 
-pub const AT: u8 = 57;
+pub const ELIF: u8 = Kind::Elif as u8 + FIRST;
 
-pub const LEFT_SHIFT: u8 = 58;
+pub const ELSE: u8 = Kind::Else as u8 + FIRST;
 
-pub const RIGHT_SHIFT: u8 = 59;
+pub const FOR: u8 = Kind::For as u8 + FIRST;
 
-pub const AMPERSAND: u8 = 60;
+pub const FROM: u8 = Kind::From as u8 + FIRST;
 
-pub const BAR: u8 = 61;
+pub const IF: u8 = Kind::If as u8 + FIRST;
 
-pub const CARET: u8 = 62;
+pub const IMPORT: u8 = Kind::Import as u8 + FIRST;
 
-pub const TILDE: u8 = 63;
+pub const IN: u8 = Kind::In as u8 + FIRST;
 
-pub const LESS: u8 = 65;
+pub const IS: u8 = Kind::Is as u8 + FIRST;
 
-pub const GREATER: u8 = 66;
+pub const NOT: u8 = Kind::Not as u8 + FIRST;
 
-pub const LESS_EQUAL: u8 = 67;
+pub const OR: u8 = Kind::Or as u8 + FIRST;
 
-pub const GREATER_EQUAL: u8 = 68;
+pub const PASS: u8 = Kind::Pass as u8 + FIRST;
 
-pub const DOUBLE_EQUAL: u8 = 69;
+pub const RETURN: u8 = Kind::Return as u8 + FIRST;
 
-pub const NOT_EQUAL: u8 = 70;
+pub const WHILE: u8 = Kind::While as u8 + FIRST;
 
-pub const LEFT_PAREN: u8 = 71;
+pub const PLUS: u8 = Kind::Plus as u8 + FIRST;
 
-pub const RIGHT_PAREN: u8 = 72;
+pub const MINUS: u8 = Kind::Minus as u8 + FIRST;
 
-pub const LEFT_BRACKET: u8 = 73;
+pub const STAR: u8 = Kind::Star as u8 + FIRST;
 
-pub const RIGHT_BRACKET: u8 = 74;
+pub const DOUBLE_STAR: u8 = Kind::DoubleStar as u8 + FIRST;
 
-pub const LEFT_BRACE: u8 = 75;
+pub const SLASH: u8 = Kind::Slash as u8 + FIRST;
 
-pub const RIGHT_BRACE: u8 = 76;
+pub const DOUBLE_SLASH: u8 = Kind::DoubleSlash as u8 + FIRST;
 
-pub const COMMA: u8 = 77;
+pub const PERCENT: u8 = Kind::Percent as u8 + FIRST;
 
-pub const COLON: u8 = 78;
+pub const AT: u8 = Kind::At as u8 + FIRST;
 
-pub const DOT: u8 = 79;
+pub const LEFT_SHIFT: u8 = Kind::LeftShift as u8 + FIRST;
 
-pub const EQUAL: u8 = 81;
+pub const RIGHT_SHIFT: u8 = Kind::RightShift as u8 + FIRST;
 
-pub const FALSE: u8 = 15;
+pub const AMPERSAND: u8 = Kind::Ampersand as u8 + FIRST;
 
-pub const NONE: u8 = 16;
+pub const BAR: u8 = Kind::Bar as u8 + FIRST;
 
-pub const TRUE: u8 = 17;
+pub const CARET: u8 = Kind::Caret as u8 + FIRST;
 
-pub const ELLIPSIS: u8 = 96;
+pub const TILDE: u8 = Kind::Tilde as u8 + FIRST;
+
+pub const LESS: u8 = Kind::Less as u8 + FIRST;
+
+pub const GREATER: u8 = Kind::Greater as u8 + FIRST;
+
+pub const LESS_EQUAL: u8 = Kind::LessEqual as u8 + FIRST;
+
+pub const GREATER_EQUAL: u8 = Kind::GreaterEqual as u8 + FIRST;
+
+pub const DOUBLE_EQUAL: u8 = Kind::DoubleEqual as u8 + FIRST;
+
+pub const NOT_EQUAL: u8 = Kind::NotEqual as u8 + FIRST;
+
+pub const LEFT_PAREN: u8 = Kind::LeftParen as u8 + FIRST;
+
+pub const RIGHT_PAREN: u8 = Kind::RightParen as u8 + FIRST;
+
+pub const LEFT_BRACKET: u8 = Kind::LeftBracket as u8 + FIRST;
+
+pub const RIGHT_BRACKET: u8 = Kind::RightBracket as u8 + FIRST;
+
+pub const LEFT_BRACE: u8 = Kind::LeftBrace as u8 + FIRST;
+
+pub const RIGHT_BRACE: u8 = Kind::RightBrace as u8 + FIRST;
+
+pub const COMMA: u8 = Kind::Comma as u8 + FIRST;
+
+pub const COLON: u8 = Kind::Colon as u8 + FIRST;
+
+pub const DOT: u8 = Kind::Dot as u8 + FIRST;
+
+pub const SEMICOLON: u8 = Kind::Semicolon as u8 + FIRST;
+
+pub const EQUAL: u8 = Kind::Equal as u8 + FIRST;
+
+pub const ARROW: u8 = Kind::Arrow as u8 + FIRST;
+
+pub const PLUS_EQUAL: u8 = Kind::PlusEqual as u8 + FIRST;
+
+pub const MINUS_EQUAL: u8 = Kind::MinusEqual as u8 + FIRST;
+
+pub const STAR_EQUAL: u8 = Kind::StarEqual as u8 + FIRST;
+
+pub const SLASH_EQUAL: u8 = Kind::SlashEqual as u8 + FIRST;
+
+pub const DOUBLE_SLASH_EQUAL: u8 = Kind::DoubleSlashEqual as u8 + FIRST;
+
+pub const PERCENT_EQUAL: u8 = Kind::PercentEqual as u8 + FIRST;
+
+pub const AT_EQUAL: u8 = Kind::AtEqual as u8 + FIRST;
+
+pub const AMPERSAND_EQUAL: u8 = Kind::AmpersandEqual as u8 + FIRST;
+
+pub const BAR_EQUAL: u8 = Kind::BarEqual as u8 + FIRST;
+
+pub const CARET_EQUAL: u8 = Kind::CaretEqual as u8 + FIRST;
+
+pub const RIGHT_SHIFT_EQUAL: u8 = Kind::RightShiftEqual as u8 + FIRST;
+
+pub const LEFT_SHIFT_EQUAL: u8 = Kind::LeftShiftEqual as u8 + FIRST;
+
+pub const DOUBLE_STAR_EQUAL: u8 = Kind::DoubleStarEqual as u8 + FIRST;
+
+pub const ELLIPSIS: u8 = Kind::Ellipsis as u8 + FIRST;
 
 /// `super` is asked for by its length first, which most names don't have.
 #[tactic(auto, using(crate::proofs::Marks::other_length))]
@@ -117,12 +199,12 @@ fn name_class(value: &Value) -> u8
         Value::Name(name) => {
             let text = name.as_str();
             if text.len() == 5 && text == "super" {
-                2
+                SUPER
             } else {
-                1
+                NAME
             }
         }
-        _ => 0,
+        _ => NONE_OF_THEM,
     }
 }
 
@@ -130,8 +212,8 @@ fn number_class(value: &Value) -> u8
     ensures { result ≡ number_class value.now }
 {
     match value {
-        Value::Whole(_) => 3,
-        _ => 0,
+        Value::Whole(_) => NUMBER,
+        _ => NONE_OF_THEM,
     }
 }
 
@@ -139,8 +221,8 @@ fn text_class(value: &Value) -> u8
     ensures { result ≡ text_class value.now }
 {
     match value {
-        Value::Text(_) => 4,
-        _ => 0,
+        Value::Text(_) => TEXT,
+        _ => NONE_OF_THEM,
     }
 }
 
@@ -148,124 +230,21 @@ fn part_text_class(value: &Value) -> u8
     ensures { result ≡ part_text_class value.now }
 {
     match value {
-        Value::Text(_) => 11,
-        _ => 0,
+        Value::Text(_) => F_STRING_TEXT,
+        _ => NONE_OF_THEM,
     }
 }
 
-/// The class of an operator or a delimiter.
-#[inline(always)]
-fn operator_code(kind: Kind) -> u8
-    requires { 49 < code kind }
-    ensures { result ≡ code kind }
-{
-    match kind {
-        Kind::Plus => 50,
-        Kind::Minus => 51,
-        Kind::Star => 52,
-        Kind::DoubleStar => 53,
-        Kind::Slash => 54,
-        Kind::DoubleSlash => 55,
-        Kind::Percent => 56,
-        Kind::At => 57,
-        Kind::LeftShift => 58,
-        Kind::RightShift => 59,
-        Kind::Ampersand => 60,
-        Kind::Bar => 61,
-        Kind::Caret => 62,
-        Kind::Tilde => 63,
-        Kind::ColonEqual => 64,
-        Kind::Less => 65,
-        Kind::Greater => 66,
-        Kind::LessEqual => 67,
-        Kind::GreaterEqual => 68,
-        Kind::DoubleEqual => 69,
-        Kind::NotEqual => 70,
-        Kind::LeftParen => 71,
-        Kind::RightParen => 72,
-        Kind::LeftBracket => 73,
-        Kind::RightBracket => 74,
-        Kind::LeftBrace => 75,
-        Kind::RightBrace => 76,
-        Kind::Comma => 77,
-        Kind::Colon => 78,
-        Kind::Dot => 79,
-        Kind::Semicolon => 80,
-        Kind::Equal => 81,
-        Kind::Arrow => 82,
-        Kind::PlusEqual => 83,
-        Kind::MinusEqual => 84,
-        Kind::StarEqual => 85,
-        Kind::SlashEqual => 86,
-        Kind::DoubleSlashEqual => 87,
-        Kind::PercentEqual => 88,
-        Kind::AtEqual => 89,
-        Kind::AmpersandEqual => 90,
-        Kind::BarEqual => 91,
-        Kind::CaretEqual => 92,
-        Kind::RightShiftEqual => 93,
-        Kind::LeftShiftEqual => 94,
-        Kind::DoubleStarEqual => 95,
-        Kind::Ellipsis => 96,
-        _ => 0,
-    }
-}
-
-/// The class of a token of this kind where the kind alone makes it, and else 0.
+/// The class of a token of this kind where the kind alone makes it, and else `NONE_OF_THEM`.
 #[inline(always)]
 pub fn code_of(kind: Kind) -> u8
     ensures { result ≡ code kind }
 {
     match kind {
-        Kind::Newline => 5,
-        Kind::Indent => 6,
-        Kind::Dedent => 7,
-        Kind::Name => 0,
-        Kind::Number => 0,
-        Kind::Float => 8,
-        Kind::Text => 0,
-        Kind::Bytes => 9,
-        Kind::FStringStart => 10,
-        Kind::FStringText => 0,
-        Kind::FieldOpen => 12,
-        Kind::FieldClose => 13,
-        Kind::FStringEnd => 14,
-        Kind::False => 15,
-        Kind::None => 16,
-        Kind::True => 17,
-        Kind::And => 18,
-        Kind::As => 19,
-        Kind::Assert => 20,
-        Kind::Async => 21,
-        Kind::Await => 22,
-        Kind::Break => 23,
-        Kind::Class => 24,
-        Kind::Continue => 25,
-        Kind::Def => 26,
-        Kind::Del => 27,
-        Kind::Elif => 28,
-        Kind::Else => 29,
-        Kind::Except => 30,
-        Kind::Finally => 31,
-        Kind::For => 32,
-        Kind::From => 33,
-        Kind::Global => 34,
-        Kind::If => 35,
-        Kind::Import => 36,
-        Kind::In => 37,
-        Kind::Is => 38,
-        Kind::Lambda => 39,
-        Kind::Nonlocal => 40,
-        Kind::Not => 41,
-        Kind::Or => 42,
-        Kind::Pass => 43,
-        Kind::Raise => 44,
-        Kind::Return => 45,
-        Kind::Try => 46,
-        Kind::While => 47,
-        Kind::With => 48,
-        Kind::Yield => 49,
-        _ => operator_code(kind),
+        Kind::Name | Kind::Number | Kind::Text | Kind::FStringText => NONE_OF_THEM,
+        Kind::Newline | Kind::Indent | Kind::Dedent => NEWLINE + kind as u8,
+        Kind::Float => FLOAT,
+        _ => kind as u8 + FIRST,
     }
 }
 
@@ -319,7 +298,7 @@ pub fn is_name(token: &Token) -> bool
 /// Whether the token is the name `super`.
 #[inline(always)]
 pub fn is_super(token: &Token) -> bool
-    ensures { result ≡ has (2 ∷ []) (class token.now) }
+    ensures { result ≡ has (SUPER ∷ []) (class token.now) }
 {
     match token.kind {
         Kind::Name => name_class(&token.value) == SUPER,
@@ -330,7 +309,7 @@ pub fn is_super(token: &Token) -> bool
 /// Whether the token is a text.
 #[inline(always)]
 pub fn is_text(token: &Token) -> bool
-    ensures { result ≡ has (4 ∷ []) (class token.now) }
+    ensures { result ≡ has (TEXT ∷ []) (class token.now) }
 {
     match token.kind {
         Kind::Text => matches!(token.value, Value::Text(_)),
@@ -476,21 +455,21 @@ pub fn begins_operator(class: u8) -> bool
 
 /// Whether the class is that of `and`, `or` or `if`.
 pub fn begins_logic(class: u8) -> bool
-    ensures conjunction { result ≡ false → has (18 ∷ []) class ≡ false }
-    ensures disjunction { result ≡ false → has (42 ∷ []) class ≡ false }
-    ensures choice { result ≡ false → has (35 ∷ []) class ≡ false }
+    ensures conjunction { result ≡ false → has (AND ∷ []) class ≡ false }
+    ensures disjunction { result ≡ false → has (OR ∷ []) class ≡ false }
+    ensures choice { result ≡ false → has (IF ∷ []) class ≡ false }
 {
     class == AND || class == OR || class == IF
 }
 
 /// Whether the class is one with which a power, operands, a comparison or a conditional goes on behind its first primary.
 pub fn goes_wider(class: u8) -> bool
-    ensures exponent { result ≡ false → has (53 ∷ []) class ≡ false }
+    ensures exponent { result ≡ false → has (DOUBLE_STAR ∷ []) class ≡ false }
     ensures binary { (level : ℕ) → result ≡ false → has (level_codes level) class ≡ false }
     ensures comparison { result ≡ false → has comparison_first class ≡ false }
-    ensures conjunction { result ≡ false → has (18 ∷ []) class ≡ false }
-    ensures disjunction { result ≡ false → has (42 ∷ []) class ≡ false }
-    ensures choice { result ≡ false → has (35 ∷ []) class ≡ false }
+    ensures conjunction { result ≡ false → has (AND ∷ []) class ≡ false }
+    ensures disjunction { result ≡ false → has (OR ∷ []) class ≡ false }
+    ensures choice { result ≡ false → has (IF ∷ []) class ≡ false }
 {
     class == DOUBLE_STAR || begins_operator(class) || begins_logic(class)
 }

@@ -75,7 +75,7 @@ fn whole_of(alloc: Global, tokens: &[Token], room: u8) -> Taken<'_, Expr>
 /// An expression whose first primary was read, where the tokens begin behind that.
 #[cycle(expr)]
 fn wider_from(alloc: Global, base: Expr, tokens: &[Token], room: u8) -> Taken<'_, Expr>
-    ensures read { (ts : List Token) → starts class unary_codes ts ≡ false → starts class (41 ∷ []) ts ≡ false → (primary room (nested room Whole)).read ts ≡ Read base tokens.now → Gives (λ x. Read x.0 x.1.now) result ((expr room).read ts) }
+    ensures read { (ts : List Token) → starts class unary_codes ts ≡ false → starts class (NOT ∷ []) ts ≡ false → (primary room (nested room Whole)).read ts ≡ Read base tokens.now → Gives (λ x. Read x.0 x.1.now) result ((expr room).read ts) }
     ensures no_longer { IfOk result (λ x. length x.1.now ≤ length tokens.now) }
 {
     let (first, rest) = power_from(alloc, base, tokens, room)?;

@@ -127,7 +127,7 @@ where
         tokens,
         (),
         |_state: (), token: &Token|
-            ensures { result ≡ has (77 ∷ []) (class token.now) }
+            ensures { result ≡ has (COMMA ∷ []) (class token.now) }
         { is_of(token, COMMA) },
         |_state: (), rest: &[Token]|
             requires can_call { F.IsAlwaysCallable inner.now }

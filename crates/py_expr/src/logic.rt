@@ -62,19 +62,19 @@ where
     F: Fn(&[Token]) -> Taken<'_, Expr>,
     requires can_call { F.IsAlwaysCallable inversion.now }
     requires reads { ReadsSome (λ ts r. F.post inversion.now ts r) (shaped Inversion room).read }
-    ensures read { Gives (λ x. Read x.0 x.1.now) result ((many class (42 ∷ []) (joined 42 (conjunction (shaped Inversion room)))).read tokens.now) }
+    ensures read { Gives (λ x. Read x.0 x.1.now) result ((many class (OR ∷ []) (joined OR (conjunction (shaped Inversion room)))).read tokens.now) }
     ensures no_longer { IfOk result (λ x. length x.1.now ≤ length tokens.now) }
 {
     many(
         alloc,
         tokens,
         |token: &Token|
-            ensures { result ≡ has (42 ∷ []) (class token.now) }
+            ensures { result ≡ has (OR ∷ []) (class token.now) }
         { class_of(token) == OR },
         |rest: &[Token]|
             requires can_call { F.IsAlwaysCallable inversion.now }
             requires reads { ReadsSome (λ ts r. F.post inversion.now ts r) (shaped Inversion room).read }
-            ensures read { Gives (λ x. Read x.0 x.1.now) result ((joined 42 (conjunction (shaped Inversion room))).read rest.now) }
+            ensures read { Gives (λ x. Read x.0 x.1.now) result ((joined OR (conjunction (shaped Inversion room))).read rest.now) }
             ensures shorter { IfOk result (λ x. length x.1.now < length rest.now) }
         { alternative_by(alloc, rest, room, inversion) },
     )
@@ -91,7 +91,7 @@ where
     F: Fn(&[Token]) -> Taken<'_, Expr>,
     requires can_call { F.IsAlwaysCallable inversion.now }
     requires reads { ReadsSome (λ ts r. F.post inversion.now ts r) (shaped Inversion room).read }
-    ensures read { Gives (λ x. Read x.0 x.1.now) result ((joined 42 (conjunction (shaped Inversion room))).read tokens.now) }
+    ensures read { Gives (λ x. Read x.0 x.1.now) result ((joined OR (conjunction (shaped Inversion room))).read tokens.now) }
     ensures shorter { IfOk result (λ x. length x.1.now < length tokens.now) }
 {
     let (at, rest) = mark(tokens, OR)?;
@@ -147,19 +147,19 @@ where
     F: Fn(&[Token]) -> Taken<'_, Expr>,
     requires can_call { F.IsAlwaysCallable inversion.now }
     requires reads { ReadsSome (λ ts r. F.post inversion.now ts r) (shaped Inversion room).read }
-    ensures read { Gives (λ x. Read x.0 x.1.now) result ((many class (18 ∷ []) (joined 18 (shaped Inversion room))).read tokens.now) }
+    ensures read { Gives (λ x. Read x.0 x.1.now) result ((many class (AND ∷ []) (joined AND (shaped Inversion room))).read tokens.now) }
     ensures no_longer { IfOk result (λ x. length x.1.now ≤ length tokens.now) }
 {
     many(
         alloc,
         tokens,
         |token: &Token|
-            ensures { result ≡ has (18 ∷ []) (class token.now) }
+            ensures { result ≡ has (AND ∷ []) (class token.now) }
         { class_of(token) == AND },
         |rest: &[Token]|
             requires can_call { F.IsAlwaysCallable inversion.now }
             requires reads { ReadsSome (λ ts r. F.post inversion.now ts r) (shaped Inversion room).read }
-            ensures read { Gives (λ x. Read x.0 x.1.now) result ((joined 18 (shaped Inversion room)).read rest.now) }
+            ensures read { Gives (λ x. Read x.0 x.1.now) result ((joined AND (shaped Inversion room)).read rest.now) }
             ensures shorter { IfOk result (λ x. length x.1.now < length rest.now) }
         { condition_by(alloc, rest, room, inversion) },
     )
@@ -176,7 +176,7 @@ where
     F: Fn(&[Token]) -> Taken<'_, Expr>,
     requires can_call { F.IsAlwaysCallable inversion.now }
     requires reads { ReadsSome (λ ts r. F.post inversion.now ts r) (shaped Inversion room).read }
-    ensures read { Gives (λ x. Read x.0 x.1.now) result ((joined 18 (shaped Inversion room)).read tokens.now) }
+    ensures read { Gives (λ x. Read x.0 x.1.now) result ((joined AND (shaped Inversion room)).read tokens.now) }
     ensures shorter { IfOk result (λ x. length x.1.now < length tokens.now) }
 {
     let (at, rest) = mark(tokens, AND)?;

@@ -9,9 +9,9 @@ ghost use Rattle.py_ast.specs.Tokens.{leaf_codes, unary_codes, level_codes};
 ghost use Rattle.py_ast.specs.Grammar.{expr_first, string_first, step_first, argument_first, comparison_first, attribute, after_is, comparator};
 
 use crate::class::{
-    DOT, F_STRING_START, IN, IS, NOT, TEXT, begins_argument, begins_expr, begins_leaf,
-    begins_logic, begins_operand, begins_operator, begins_step, begins_unary, class_of, code_of,
-    goes_wider, is_name, is_text,
+    AND, DOT, DOUBLE_STAR, F_STRING_START, IF, IN, IS, NOT, OR, TEXT, begins_argument, begins_expr,
+    begins_leaf, begins_logic, begins_operand, begins_operator, begins_step, begins_unary,
+    class_of, code_of, goes_wider, is_name, is_text,
 };
 use crate::token::{Taken, comparator_token, mark, name_token, stands};
 use py_ast::{Comparator, Step, StepForm};
@@ -43,7 +43,7 @@ pub fn stands_unary(tokens: &[Token]) -> bool
 #[tactic(auto, using(crate::proofs::Marks::unary_is, crate::proofs::Marks::not_is))]
 pub fn stands_prefix(tokens: &[Token]) -> bool
     ensures unary { result ≡ false → starts class unary_codes tokens.now ≡ false }
-    ensures negation { result ≡ false → starts class (41 ∷ []) tokens.now ≡ false }
+    ensures negation { result ≡ false → starts class (NOT ∷ []) tokens.now ≡ false }
 {
     match tokens {
         [first, ..] => {
@@ -81,9 +81,9 @@ pub fn stands_operator(tokens: &[Token]) -> bool
 /// Whether `and`, `or` or `if` stands here.
 #[tactic(auto, using(crate::proofs::Marks::and_is, crate::proofs::Marks::or_is, crate::proofs::Marks::if_is))]
 pub fn stands_logic(tokens: &[Token]) -> bool
-    ensures conjunction { result ≡ false → starts class (18 ∷ []) tokens.now ≡ false }
-    ensures disjunction { result ≡ false → starts class (42 ∷ []) tokens.now ≡ false }
-    ensures choice { result ≡ false → starts class (35 ∷ []) tokens.now ≡ false }
+    ensures conjunction { result ≡ false → starts class (AND ∷ []) tokens.now ≡ false }
+    ensures disjunction { result ≡ false → starts class (OR ∷ []) tokens.now ≡ false }
+    ensures choice { result ≡ false → starts class (IF ∷ []) tokens.now ≡ false }
 {
     match tokens {
         [first, ..] => begins_logic(code_of(first.kind)),
@@ -94,12 +94,12 @@ pub fn stands_logic(tokens: &[Token]) -> bool
 /// Whether a power, operands, a comparison or a conditional goes on here behind a primary.
 #[tactic(auto, using(crate::proofs::Marks::power_is, crate::proofs::Marks::level_is, crate::proofs::Marks::comparison_is, crate::proofs::Marks::and_is, crate::proofs::Marks::or_is, crate::proofs::Marks::if_is))]
 pub fn stands_wider(tokens: &[Token]) -> bool
-    ensures exponent { result ≡ false → starts class (53 ∷ []) tokens.now ≡ false }
+    ensures exponent { result ≡ false → starts class (DOUBLE_STAR ∷ []) tokens.now ≡ false }
     ensures binary { (level : ℕ) → result ≡ false → starts class (level_codes level) tokens.now ≡ false }
     ensures comparison { result ≡ false → starts class comparison_first tokens.now ≡ false }
-    ensures conjunction { result ≡ false → starts class (18 ∷ []) tokens.now ≡ false }
-    ensures disjunction { result ≡ false → starts class (42 ∷ []) tokens.now ≡ false }
-    ensures choice { result ≡ false → starts class (35 ∷ []) tokens.now ≡ false }
+    ensures conjunction { result ≡ false → starts class (AND ∷ []) tokens.now ≡ false }
+    ensures disjunction { result ≡ false → starts class (OR ∷ []) tokens.now ≡ false }
+    ensures choice { result ≡ false → starts class (IF ∷ []) tokens.now ≡ false }
 {
     match tokens {
         [first, ..] => goes_wider(code_of(first.kind)),
@@ -129,12 +129,12 @@ fn stands_string(tokens: &[Token]) -> bool
 /// Whether a primary, a power, operands, a comparison or a conditional goes on here behind an atom.
 fn stands_on(tokens: &[Token]) -> bool
     ensures step { result ≡ false → starts class (step_first true) tokens.now ≡ false }
-    ensures exponent { result ≡ false → starts class (53 ∷ []) tokens.now ≡ false }
+    ensures exponent { result ≡ false → starts class (DOUBLE_STAR ∷ []) tokens.now ≡ false }
     ensures binary { (level : ℕ) → result ≡ false → starts class (level_codes level) tokens.now ≡ false }
     ensures comparison { result ≡ false → starts class comparison_first tokens.now ≡ false }
-    ensures conjunction { result ≡ false → starts class (18 ∷ []) tokens.now ≡ false }
-    ensures disjunction { result ≡ false → starts class (42 ∷ []) tokens.now ≡ false }
-    ensures choice { result ≡ false → starts class (35 ∷ []) tokens.now ≡ false }
+    ensures conjunction { result ≡ false → starts class (AND ∷ []) tokens.now ≡ false }
+    ensures disjunction { result ≡ false → starts class (OR ∷ []) tokens.now ≡ false }
+    ensures choice { result ≡ false → starts class (IF ∷ []) tokens.now ≡ false }
 {
     stands_step(tokens, true) || stands_wider(tokens)
 }
@@ -154,12 +154,12 @@ pub fn stands_leaf(tokens: &[Token]) -> bool
 pub fn stands_alone(tokens: &[Token]) -> bool
     ensures leaf { result ≡ true → starts class leaf_codes tokens.now ≡ true }
     ensures step { result ≡ true → starts class (step_first true) (drop 1 tokens.now) ≡ false }
-    ensures exponent { result ≡ true → starts class (53 ∷ []) (drop 1 tokens.now) ≡ false }
+    ensures exponent { result ≡ true → starts class (DOUBLE_STAR ∷ []) (drop 1 tokens.now) ≡ false }
     ensures binary { (level : ℕ) → result ≡ true → starts class (level_codes level) (drop 1 tokens.now) ≡ false }
     ensures comparison { result ≡ true → starts class comparison_first (drop 1 tokens.now) ≡ false }
-    ensures conjunction { result ≡ true → starts class (18 ∷ []) (drop 1 tokens.now) ≡ false }
-    ensures disjunction { result ≡ true → starts class (42 ∷ []) (drop 1 tokens.now) ≡ false }
-    ensures choice { result ≡ true → starts class (35 ∷ []) (drop 1 tokens.now) ≡ false }
+    ensures conjunction { result ≡ true → starts class (AND ∷ []) (drop 1 tokens.now) ≡ false }
+    ensures disjunction { result ≡ true → starts class (OR ∷ []) (drop 1 tokens.now) ≡ false }
+    ensures choice { result ≡ true → starts class (IF ∷ []) (drop 1 tokens.now) ≡ false }
 {
     match tokens {
         [first, rest @ ..] => !stands_on(rest) && begins_leaf(class_of(first)),
@@ -169,15 +169,15 @@ pub fn stands_alone(tokens: &[Token]) -> bool
 
 /// Whether a string that isn't formatted stands here, and no token behind it goes on with it.
 pub fn stands_text_alone(tokens: &[Token]) -> bool
-    ensures text { result ≡ true → starts class (4 ∷ []) tokens.now ≡ true }
+    ensures text { result ≡ true → starts class (TEXT ∷ []) tokens.now ≡ true }
     ensures string { result ≡ true → starts class string_first (drop 1 tokens.now) ≡ false }
     ensures step { result ≡ true → starts class (step_first true) (drop 1 tokens.now) ≡ false }
-    ensures exponent { result ≡ true → starts class (53 ∷ []) (drop 1 tokens.now) ≡ false }
+    ensures exponent { result ≡ true → starts class (DOUBLE_STAR ∷ []) (drop 1 tokens.now) ≡ false }
     ensures binary { (level : ℕ) → result ≡ true → starts class (level_codes level) (drop 1 tokens.now) ≡ false }
     ensures comparison { result ≡ true → starts class comparison_first (drop 1 tokens.now) ≡ false }
-    ensures conjunction { result ≡ true → starts class (18 ∷ []) (drop 1 tokens.now) ≡ false }
-    ensures disjunction { result ≡ true → starts class (42 ∷ []) (drop 1 tokens.now) ≡ false }
-    ensures choice { result ≡ true → starts class (35 ∷ []) (drop 1 tokens.now) ≡ false }
+    ensures conjunction { result ≡ true → starts class (AND ∷ []) (drop 1 tokens.now) ≡ false }
+    ensures disjunction { result ≡ true → starts class (OR ∷ []) (drop 1 tokens.now) ≡ false }
+    ensures choice { result ≡ true → starts class (IF ∷ []) (drop 1 tokens.now) ≡ false }
 {
     match tokens {
         [first, rest @ ..] => is_text(first) && !stands_string(rest) && !stands_on(rest),

@@ -181,7 +181,7 @@ where
     F: Fn(&[Token]) -> Taken<'_, Expr>,
     requires can_call { F.IsAlwaysCallable inner.now }
     requires reads { ReadsSome (λ ts r. F.post inner.now ts r) (nested room Whole).read }
-    ensures read { (ts ys : List Token) → (opener room (mark_of 71)).read ts ≡ Read node ys → starts class (argument_first false) ys ≡ true → (argument (nested room Whole) false).read ys ≡ Read first tokens.now → Gives (λ x. Read x.0 x.1.now) result ((call room (nested room Whole)).read ts) }
+    ensures read { (ts ys : List Token) → (opener room (mark_of LEFT_PAREN)).read ts ≡ Read node ys → starts class (argument_first false) ys ≡ true → (argument (nested room Whole) false).read ys ≡ Read first tokens.now → Gives (λ x. Read x.0 x.1.now) result ((call room (nested room Whole)).read ts) }
     ensures no_longer { IfOk result (λ x. length x.1.now ≤ length tokens.now) }
 {
     let mut rest = tokens;
@@ -219,7 +219,7 @@ fn begun_list<A: Drop>(alloc: Global, first: A, more: bool) -> Result<Items<A>, 
 /// The state of the argument behind a comma, if one stands at the front and the argument before wasn't the last.
 #[inline(always)]
 fn comma_state(tokens: &[Token], state: Option<bool>) -> Option<bool>
-    ensures { result ≡ opening class (λ s. (77 ∷ [])) state tokens.now }
+    ensures { result ≡ opening class (λ s. (COMMA ∷ [])) state tokens.now }
 {
     let current = state?;
     if stands(tokens, COMMA) {
@@ -337,7 +337,7 @@ where
     F: Fn(&[Token]) -> Taken<'_, Expr>,
     requires can_call { F.IsAlwaysCallable inner.now }
     requires reads { ReadsSome (λ ts r. F.post inner.now ts r) (nested room Whole).read }
-    ensures read { Gives (λ x. Read x.0 x.1.now) result ((mapped (past 81 (nested room Whole)) (λ e. keyword_argument_of name e)).read tokens.now) }
+    ensures read { Gives (λ x. Read x.0 x.1.now) result ((mapped (past EQUAL (nested room Whole)) (λ e. keyword_argument_of name e)).read tokens.now) }
     ensures shorter { IfOk result (λ x. length x.1.now < length tokens.now) }
 {
     let (_, rest) = mark(tokens, EQUAL)?;

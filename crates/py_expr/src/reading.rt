@@ -15,8 +15,8 @@ use py_lexer::{Form, Token};
 use py_literals::place::Pos;
 use std::alloc::Global;
 
-/// So many nestings may be open, one in another.
-const DEEPEST: u8 = 100;
+/// So many nestings may be open, one in another: of expressions, and likewise of blocks.
+pub const DEEPEST: u8 = 100;
 
 /// The place of the token at an index.
 fn place_at(tokens: &[Token], index: usize) -> Pos

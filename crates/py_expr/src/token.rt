@@ -10,8 +10,8 @@ ghost use Rattle.py_ast.specs.Tokens.{leaf_codes, leaf_at, leaf_of, leaf_form, n
 ghost use Rattle.py_ast.specs.Trees.{leaf};
 
 use crate::class::{
-    F_STRING_TEXT, SUPER, TEXT, begins_comparator, begins_leaf, begins_operand, begins_unary,
-    class_of, code_of, is_name, is_super, is_text,
+    F_STRING_TEXT, NEWLINE, SUPER, TEXT, begins_comparator, begins_leaf, begins_operand,
+    begins_unary, class_of, code_of, is_name, is_super, is_text,
 };
 use phrases::{Fault, Stop};
 use py_ast::{
@@ -35,7 +35,7 @@ pub fn is_of(token: &Token, code: u8) -> bool
         is_text(token)
     } else if code == SUPER {
         is_super(token)
-    } else if code < 5 || code == F_STRING_TEXT {
+    } else if code < NEWLINE || code == F_STRING_TEXT {
         class_of(token) == code
     } else {
         code_of(token.kind) == code
@@ -197,7 +197,7 @@ pub fn name_token(tokens: &[Token]) -> Taken<'_, NameAt>
 
 /// The name `super`.
 pub fn super_token(tokens: &[Token]) -> Taken<'_, NameAt>
-    ensures read { Gives (λ x. Read x.0 x.1.now) result ((token (name_of (2 ∷ []))).read tokens.now) }
+    ensures read { Gives (λ x. Read x.0 x.1.now) result ((token (name_of (SUPER ∷ []))).read tokens.now) }
     ensures shorter { IfOk result (λ x. length x.1.now < length tokens.now) }
 {
     match tokens {

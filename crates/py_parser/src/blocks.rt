@@ -16,7 +16,7 @@ ghost use Rattle.py_parser.specs.Suites.{ReadsSuites};
 use crate::lines::one_more;
 use phrases::many;
 use py_ast::{Branch, NameAt, Stmt, StmtForm, Suite};
-use py_expr::class::class_of;
+use py_expr::class::{ELIF, class_of};
 use py_expr::expr::{expr_of, exprs_of};
 use py_expr::token::{Taken, mark, open, stands};
 use py_lexer::Token;
@@ -105,19 +105,19 @@ where
     S: Fn(Suite, &[Token]) -> Taken<'_, Items<Stmt>>,
     requires callable { S.IsAlwaysCallable suite.now }
     requires reads { ReadsSuites (λ s ts r. S.post suite.now s ts r) room }
-    ensures read { Gives (λ x. Read x.0 x.1.now) result ((many class (28 ∷ []) (branch 28 (expr 100) room (suites 100 room kind))).read tokens.now) }
+    ensures read { Gives (λ x. Read x.0 x.1.now) result ((many class (ELIF ∷ []) (branch ELIF (expr 100) room (suites 100 room kind))).read tokens.now) }
     ensures no_longer { IfOk result (λ x. length x.1.now ≤ length tokens.now) }
 {
     many(
         alloc,
         tokens,
         |token: &Token|
-            ensures { result ≡ has (28 ∷ []) (class token.now) }
+            ensures { result ≡ has (ELIF ∷ []) (class token.now) }
         { class_of(token) == ELIF },
         |rest: &[Token]|
             requires callable { S.IsAlwaysCallable suite.now }
             requires reads { ReadsSuites (λ s ts r. S.post suite.now s ts r) room }
-            ensures read { Gives (λ x. Read x.0 x.1.now) result ((branch 28 (expr 100) room (suites 100 room kind)).read rest.now) }
+            ensures read { Gives (λ x. Read x.0 x.1.now) result ((branch ELIF (expr 100) room (suites 100 room kind)).read rest.now) }
             ensures shorter { IfOk result (λ x. length x.1.now < length rest.now) }
         { branch_of(alloc, rest, ELIF, room, kind, suite) },
     )

@@ -15,7 +15,7 @@ ghost use Rattle.py_parser.specs.Lines.{simples, simples_first, simples_line, be
 use crate::lists::appended;
 use phrases::series;
 use py_ast::{Constant, Expr, Form, NameAt, Stmt, Tail, given_after};
-use py_expr::class::class_of;
+use py_expr::class::{EQUAL, SEMICOLON, class_of};
 use py_expr::token::{Taken, make_leaf, mark, stands};
 use py_lexer::Token;
 use py_literals::place::Pos;
@@ -43,7 +43,7 @@ pub enum Simples {
 
 /// What follows the name that a statement of a class begins with.
 fn member_tail_of(alloc: Global, tokens: &[Token]) -> Taken<'_, Tail>
-    ensures read { Gives (λ x. Read x.0 x.1.now) result ((either class (81 ∷ []) (assigned (expr 100)) (annotated (expr 100))).read tokens.now) }
+    ensures read { Gives (λ x. Read x.0 x.1.now) result ((either class (EQUAL ∷ []) (assigned (expr 100)) (annotated (expr 100))).read tokens.now) }
     ensures shorter { IfOk result (λ x. length x.1.now < length tokens.now) }
 {
     if stands(tokens, EQUAL) {
@@ -172,7 +172,7 @@ fn all_further_of(
     tokens: &[Token],
     place: Simples,
 ) -> Taken<'_, Items<(Pos, Option<Stmt>)>>
-    ensures read { Gives (λ x. Read x.0 x.1.now) result ((series class (λ t. 80 ∷ []) (λ t. further (simples_first place) (simples (expr 100) place)) (λ t i. goes_past (λ s. tt {0}) i) (tt {0})).read tokens.now) }
+    ensures read { Gives (λ x. Read x.0 x.1.now) result ((series class (λ t. SEMICOLON ∷ []) (λ t. further (simples_first place) (simples (expr 100) place)) (λ t i. goes_past (λ s. tt {0}) i) (tt {0})).read tokens.now) }
     ensures no_longer { IfOk result (λ x. length x.1.now ≤ length tokens.now) }
 {
     series(
@@ -180,7 +180,7 @@ fn all_further_of(
         tokens,
         (),
         |_state: (), token: &Token|
-            ensures { result ≡ has (80 ∷ []) (class token.now) }
+            ensures { result ≡ has (SEMICOLON ∷ []) (class token.now) }
         { class_of(token) == SEMICOLON },
         |_state: (), rest: &[Token]|
             ensures read { Gives (λ x. Read x.0.0 x.1.now) result ((further (simples_first place) (simples (expr 100) place)).read rest.now) }

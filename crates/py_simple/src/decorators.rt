@@ -20,7 +20,7 @@ use crate::words::{
 use phrases::{many, series};
 use py_ast::{Argument, Decorator, Dotted, NameAt};
 use py_expr::build::as_items;
-use py_expr::class::class_of;
+use py_expr::class::{AT, COMMA, LEFT_PAREN, class_of};
 use py_expr::token::{Taken, mark, stands};
 use py_lexer::Token;
 use py_literals::place::Pos;
@@ -105,7 +105,7 @@ fn comma_arguments_of(
         tokens,
         keyword,
         |_keyword: bool, token: &Token|
-            ensures { result ≡ has (77 ∷ []) (class token.now) }
+            ensures { result ≡ has (COMMA ∷ []) (class token.now) }
         { class_of(token) == COMMA },
         |keyword: bool, rest: &[Token]|
             ensures read { Gives (λ x. Read x.0.0 x.1.now) result ((comma_item (literal_argument_first keyword) (literal_argument (literal 100) keyword)).read rest.now) }
@@ -179,7 +179,7 @@ fn decorator_name_of(alloc: Global, tokens: &[Token]) -> Taken<'_, Dotted>
 /// The arguments of a decorator, where it is called.
 #[tactic(auto, unfolding(py_ast::specs::Statements::optional, py_ast::specs::Grammar::mapped))]
 fn optional_call_of(alloc: Global, tokens: &[Token]) -> Taken<'_, Option<Items<Argument>>>
-    ensures read { Gives (λ x. Read x.0 x.1.now) result ((optional (71 ∷ []) (mapped (in_parentheses (literal_argument_first (false)) (literal_arguments (literal 100))) optional_items)).read tokens.now) }
+    ensures read { Gives (λ x. Read x.0 x.1.now) result ((optional (LEFT_PAREN ∷ []) (mapped (in_parentheses (literal_argument_first (false)) (literal_arguments (literal 100))) optional_items)).read tokens.now) }
     ensures no_longer { IfOk result (λ x. length x.1.now ≤ length tokens.now) }
 {
     if !stands(tokens, LEFT_PAREN) {
@@ -211,14 +211,14 @@ fn decorator_of(alloc: Global, tokens: &[Token]) -> Taken<'_, Decorator>
 
 /// Decorators, while one follows.
 fn further_decorators_of(alloc: Global, tokens: &[Token]) -> Taken<'_, Items<Decorator>>
-    ensures read { Gives (λ x. Read x.0 x.1.now) result ((many class (57 ∷ []) (decorator (literal 100))).read tokens.now) }
+    ensures read { Gives (λ x. Read x.0 x.1.now) result ((many class (AT ∷ []) (decorator (literal 100))).read tokens.now) }
     ensures no_longer { IfOk result (λ x. length x.1.now ≤ length tokens.now) }
 {
     many(
         alloc,
         tokens,
         |token: &Token|
-            ensures { result ≡ has (57 ∷ []) (class token.now) }
+            ensures { result ≡ has (AT ∷ []) (class token.now) }
         { class_of(token) == AT },
         |rest: &[Token]|
             ensures read { Gives (λ x. Read x.0 x.1.now) result ((decorator (literal 100)).read rest.now) }

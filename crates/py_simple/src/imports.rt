@@ -13,7 +13,7 @@ ghost use Rattle.py_ast.specs.Statements.{name, dotted, alias, optional, importe
 use crate::words::{AS, COMMA, DOT, FROM, IMPORT, LEFT_PAREN, RIGHT_PAREN, stands_name};
 use phrases::{Stop, many, series};
 use py_ast::{Dotted, Imported, ImportedName, NameAt, Stmt, StmtForm, given_after};
-use py_expr::class::class_of;
+use py_expr::class::{COMMA, DOT, class_of};
 use py_expr::token::{Taken, mark, name_token, stands};
 use py_lexer::Token;
 use py_literals::place::Pos;
@@ -43,7 +43,7 @@ pub fn prepended<A: Drop>(alloc: Global, first: A, others: Items<A>) -> Result<I
 /// A dot and a name.
 #[tactic(auto, unfolding(py_ast::specs::Grammar::past))]
 pub(crate) fn dot_name_of(tokens: &[Token]) -> Taken<'_, NameAt>
-    ensures read { Gives (λ x. Read x.0 x.1.now) result ((past 79 name).read tokens.now) }
+    ensures read { Gives (λ x. Read x.0 x.1.now) result ((past DOT name).read tokens.now) }
     ensures shorter { IfOk result (λ x. length x.1.now < length tokens.now) }
 {
     let (_, rest) = mark(tokens, DOT)?;
@@ -52,17 +52,17 @@ pub(crate) fn dot_name_of(tokens: &[Token]) -> Taken<'_, NameAt>
 
 /// Dots with a name behind each.
 pub(crate) fn dot_names_of(alloc: Global, tokens: &[Token]) -> Taken<'_, Items<NameAt>>
-    ensures read { Gives (λ x. Read x.0 x.1.now) result ((many class (79 ∷ []) (past 79 name)).read tokens.now) }
+    ensures read { Gives (λ x. Read x.0 x.1.now) result ((many class (DOT ∷ []) (past DOT name)).read tokens.now) }
     ensures no_longer { IfOk result (λ x. length x.1.now ≤ length tokens.now) }
 {
     many(
         alloc,
         tokens,
         |token: &Token|
-            ensures { result ≡ has (79 ∷ []) (class token.now) }
+            ensures { result ≡ has (DOT ∷ []) (class token.now) }
         { class_of(token) == DOT },
         |rest: &[Token]|
-            ensures read { Gives (λ x. Read x.0 x.1.now) result ((past 79 name).read rest.now) }
+            ensures read { Gives (λ x. Read x.0 x.1.now) result ((past DOT name).read rest.now) }
             ensures shorter { IfOk result (λ x. length x.1.now < length rest.now) }
         { dot_name_of(rest) },
     )
@@ -106,7 +106,7 @@ fn imported_of(alloc: Global, tokens: &[Token]) -> Taken<'_, Imported>
 /// A comma and a module.
 #[tactic(auto, unfolding(py_ast::specs::Grammar::past))]
 fn further_imported_of(alloc: Global, tokens: &[Token]) -> Taken<'_, Imported>
-    ensures read { Gives (λ x. Read x.0 x.1.now) result ((past 77 (sequence dotted (λ d. alias) imported_of)).read tokens.now) }
+    ensures read { Gives (λ x. Read x.0 x.1.now) result ((past COMMA (sequence dotted (λ d. alias) imported_of)).read tokens.now) }
     ensures shorter { IfOk result (λ x. length x.1.now < length tokens.now) }
 {
     let (_, rest) = mark(tokens, COMMA)?;
@@ -115,17 +115,17 @@ fn further_imported_of(alloc: Global, tokens: &[Token]) -> Taken<'_, Imported>
 
 /// Commas with a module behind each.
 fn all_further_imported_of(alloc: Global, tokens: &[Token]) -> Taken<'_, Items<Imported>>
-    ensures read { Gives (λ x. Read x.0 x.1.now) result ((many class (77 ∷ []) (past 77 (sequence dotted (λ d. alias) imported_of))).read tokens.now) }
+    ensures read { Gives (λ x. Read x.0 x.1.now) result ((many class (COMMA ∷ []) (past COMMA (sequence dotted (λ d. alias) imported_of))).read tokens.now) }
     ensures no_longer { IfOk result (λ x. length x.1.now ≤ length tokens.now) }
 {
     many(
         alloc,
         tokens,
         |token: &Token|
-            ensures { result ≡ has (77 ∷ []) (class token.now) }
+            ensures { result ≡ has (COMMA ∷ []) (class token.now) }
         { class_of(token) == COMMA },
         |rest: &[Token]|
-            ensures read { Gives (λ x. Read x.0 x.1.now) result ((past 77 (sequence dotted (λ d. alias) imported_of)).read rest.now) }
+            ensures read { Gives (λ x. Read x.0 x.1.now) result ((past COMMA (sequence dotted (λ d. alias) imported_of)).read rest.now) }
             ensures shorter { IfOk result (λ x. length x.1.now < length rest.now) }
         { further_imported_of(alloc, rest) },
     )
@@ -165,7 +165,7 @@ fn imported_name_of(tokens: &[Token]) -> Taken<'_, ImportedName>
 /// A comma and a name.
 #[tactic(auto, unfolding(py_ast::specs::Grammar::past))]
 fn further_name_of(tokens: &[Token]) -> Taken<'_, ImportedName>
-    ensures read { Gives (λ x. Read x.0 x.1.now) result ((past 77 imported_name).read tokens.now) }
+    ensures read { Gives (λ x. Read x.0 x.1.now) result ((past COMMA imported_name).read tokens.now) }
     ensures shorter { IfOk result (λ x. length x.1.now < length tokens.now) }
 {
     let (_, rest) = mark(tokens, COMMA)?;
@@ -174,17 +174,17 @@ fn further_name_of(tokens: &[Token]) -> Taken<'_, ImportedName>
 
 /// Commas with a name behind each.
 fn further_names_of(alloc: Global, tokens: &[Token]) -> Taken<'_, Items<ImportedName>>
-    ensures read { Gives (λ x. Read x.0 x.1.now) result ((many class (77 ∷ []) (past 77 imported_name)).read tokens.now) }
+    ensures read { Gives (λ x. Read x.0 x.1.now) result ((many class (COMMA ∷ []) (past COMMA imported_name)).read tokens.now) }
     ensures no_longer { IfOk result (λ x. length x.1.now ≤ length tokens.now) }
 {
     many(
         alloc,
         tokens,
         |token: &Token|
-            ensures { result ≡ has (77 ∷ []) (class token.now) }
+            ensures { result ≡ has (COMMA ∷ []) (class token.now) }
         { class_of(token) == COMMA },
         |rest: &[Token]|
-            ensures read { Gives (λ x. Read x.0 x.1.now) result ((past 77 imported_name).read rest.now) }
+            ensures read { Gives (λ x. Read x.0 x.1.now) result ((past COMMA imported_name).read rest.now) }
             ensures shorter { IfOk result (λ x. length x.1.now < length rest.now) }
         { further_name_of(rest) },
     )
@@ -215,7 +215,7 @@ fn comma_names_of(alloc: Global, tokens: &[Token]) -> Taken<'_, Items<(Pos, Opti
         tokens,
         (),
         |_state: (), token: &Token|
-            ensures { result ≡ has (77 ∷ []) (class token.now) }
+            ensures { result ≡ has (COMMA ∷ []) (class token.now) }
         { class_of(token) == COMMA },
         |_state: (), rest: &[Token]|
             ensures read { Gives (λ x. Read x.0.0 x.1.now) result ((comma_item name_codes imported_name).read rest.now) }

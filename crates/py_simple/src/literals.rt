@@ -21,7 +21,10 @@ use crate::words::{
 use phrases::{Fault, Stop, many, series};
 use py_ast::{Expr, Form, Pair, Piece};
 use py_expr::build::{as_items, as_parenthesized};
-use py_expr::class::class_of;
+use py_expr::class::{
+    COMMA, LEFT_BRACE, LEFT_BRACKET, LEFT_PAREN, RIGHT_BRACE, RIGHT_BRACKET, RIGHT_PAREN, TEXT,
+    class_of,
+};
 use py_expr::strings::as_strings;
 use py_expr::token::{Taken, leaf_token, make_leaf, mark, open, stands, text_token};
 use py_lexer::Token;
@@ -46,14 +49,14 @@ fn literal_token(tokens: &[Token]) -> Taken<'_, Expr>
 
 /// Strings in a row that aren't formatted.
 fn all_texts_of(alloc: Global, tokens: &[Token]) -> Taken<'_, Items<(Pos, Piece)>>
-    ensures read { Gives (λ x. Read x.0 x.1.now) result ((many class (4 ∷ []) (token text_of)).read tokens.now) }
+    ensures read { Gives (λ x. Read x.0 x.1.now) result ((many class (TEXT ∷ []) (token text_of)).read tokens.now) }
     ensures no_longer { IfOk result (λ x. length x.1.now ≤ length tokens.now) }
 {
     many(
         alloc,
         tokens,
         |token: &Token|
-            ensures { result ≡ has (4 ∷ []) (class token.now) }
+            ensures { result ≡ has (TEXT ∷ []) (class token.now) }
         { class_of(token) == TEXT },
         |rest: &[Token]|
             ensures read { Gives (λ x. Read x.0 x.1.now) result ((token text_of).read rest.now) }
@@ -130,7 +133,7 @@ where
         tokens,
         (),
         |_state: (), token: &Token|
-            ensures { result ≡ has (77 ∷ []) (class token.now) }
+            ensures { result ≡ has (COMMA ∷ []) (class token.now) }
         { class_of(token) == COMMA },
         |_state: (), rest: &[Token]|
             requires callable { L.IsAlwaysCallable literal.now }
@@ -245,7 +248,7 @@ where
         tokens,
         (),
         |_state: (), token: &Token|
-            ensures { result ≡ has (77 ∷ []) (class token.now) }
+            ensures { result ≡ has (COMMA ∷ []) (class token.now) }
         { class_of(token) == COMMA },
         |_state: (), rest: &[Token]|
             requires callable { L.IsAlwaysCallable literal.now }
@@ -289,7 +292,7 @@ where
     L: Fn(&[Token]) -> Taken<'_, Expr>,
     requires callable { L.IsAlwaysCallable literal.now }
     requires reads { ReadsLiterals (λ ts r. L.post literal.now ts r) room }
-    ensures read { Gives (λ x. Read x.0 x.1.now) result ((either class literal_first (mapped (ended (literal_pairs (nested_literal room (tt {0}))) 76) Some) (sequence (token (mark_of 76)) (λ c. nothing None) second)).read tokens.now) }
+    ensures read { Gives (λ x. Read x.0 x.1.now) result ((either class literal_first (mapped (ended (literal_pairs (nested_literal room (tt {0}))) RIGHT_BRACE) Some) (sequence (token (mark_of RIGHT_BRACE)) (λ c. nothing None) second)).read tokens.now) }
     ensures shorter { IfOk result (λ x. length x.1.now < length tokens.now) }
 {
     if !stands_literal(tokens) {
@@ -313,7 +316,7 @@ where
     L: Fn(&[Token]) -> Taken<'_, Expr>,
     requires callable { L.IsAlwaysCallable literal.now }
     requires reads { ReadsLiterals (λ ts r. L.post literal.now ts r) room }
-    ensures read { Gives (λ x. Read x.0 x.1.now) result ((mapped (bracketed room 71 72 literal_first (literals (nested_literal room (tt {0})))) parenthesized_at).read tokens.now) }
+    ensures read { Gives (λ x. Read x.0 x.1.now) result ((mapped (bracketed room LEFT_PAREN RIGHT_PAREN literal_first (literals (nested_literal room (tt {0})))) parenthesized_at).read tokens.now) }
     ensures shorter { IfOk result (λ x. length x.1.now < length tokens.now) }
 {
     let (at, rest) = open(tokens, LEFT_PAREN, room)?;
@@ -328,7 +331,7 @@ where
     L: Fn(&[Token]) -> Taken<'_, Expr>,
     requires callable { L.IsAlwaysCallable literal.now }
     requires reads { ReadsLiterals (λ ts r. L.post literal.now ts r) room }
-    ensures read { Gives (λ x. Read x.0 x.1.now) result ((mapped (bracketed room 73 74 literal_first (literals (nested_literal room (tt {0})))) list_at).read tokens.now) }
+    ensures read { Gives (λ x. Read x.0 x.1.now) result ((mapped (bracketed room LEFT_BRACKET RIGHT_BRACKET literal_first (literals (nested_literal room (tt {0})))) list_at).read tokens.now) }
     ensures shorter { IfOk result (λ x. length x.1.now < length tokens.now) }
 {
     let (at, rest) = open(tokens, LEFT_BRACKET, room)?;
@@ -349,7 +352,7 @@ where
     L: Fn(&[Token]) -> Taken<'_, Expr>,
     requires callable { L.IsAlwaysCallable literal.now }
     requires reads { ReadsLiterals (λ ts r. L.post literal.now ts r) room }
-    ensures read { Gives (λ x. Read x.0 x.1.now) result ((mapped (bracketed room 75 76 literal_first (literal_pairs (nested_literal room (tt {0})))) dictionary_at).read tokens.now) }
+    ensures read { Gives (λ x. Read x.0 x.1.now) result ((mapped (bracketed room LEFT_BRACE RIGHT_BRACE literal_first (literal_pairs (nested_literal room (tt {0})))) dictionary_at).read tokens.now) }
     ensures shorter { IfOk result (λ x. length x.1.now < length tokens.now) }
 {
     let (at, rest) = open(tokens, LEFT_BRACE, room)?;

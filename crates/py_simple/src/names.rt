@@ -15,7 +15,7 @@ use crate::simple::NESTINGS;
 use crate::words::{ARROW, COLON, COMMA, EQUAL, LEFT_PAREN, NAME, RIGHT_PAREN, stands_name};
 use phrases::{Fault, Stop, series};
 use py_ast::{Dotted, Expr, NameAt, Parameter, given_after};
-use py_expr::class::class_of;
+use py_expr::class::{COMMA, NAME, class_of};
 use py_expr::expr::expr_of;
 use py_expr::token::{Taken, mark, stands};
 use py_lexer::Token;
@@ -25,7 +25,7 @@ use std::alloc::{AllocError, Global};
 
 /// A name, but `super`.
 pub fn plain_name_of(tokens: &[Token]) -> Taken<'_, NameAt>
-    ensures read { Gives (λ x. Read x.0 x.1.now) result ((token (name_of (1 ∷ []))).read tokens.now) }
+    ensures read { Gives (λ x. Read x.0 x.1.now) result ((token (name_of (NAME ∷ []))).read tokens.now) }
     ensures shorter { IfOk result (λ x. length x.1.now < length tokens.now) }
 {
     if stands(tokens, NAME) {
@@ -59,7 +59,7 @@ fn comma_names_of(alloc: Global, tokens: &[Token]) -> Taken<'_, Items<(Pos, Opti
         tokens,
         (),
         |_state: (), token: &Token|
-            ensures { result ≡ has (77 ∷ []) (class token.now) }
+            ensures { result ≡ has (COMMA ∷ []) (class token.now) }
         { class_of(token) == COMMA },
         |_state: (), rest: &[Token]|
             ensures read { Gives (λ x. Read x.0.0 x.1.now) result ((comma_item name_codes name).read rest.now) }
@@ -83,7 +83,7 @@ fn further_names_of(alloc: Global, tokens: &[Token]) -> Taken<'_, Items<NameAt>>
 
 /// The further names of a loop without parentheses, if there are any.
 fn more_names_of(alloc: Global, tokens: &[Token]) -> Taken<'_, Items<NameAt>>
-    ensures read { Gives (λ x. Read x.0 x.1.now) result ((either class (77 ∷ []) further_names (nothing [])).read tokens.now) }
+    ensures read { Gives (λ x. Read x.0 x.1.now) result ((either class (COMMA ∷ []) further_names (nothing [])).read tokens.now) }
     ensures no_longer { IfOk result (λ x. length x.1.now ≤ length tokens.now) }
 {
     if stands(tokens, COMMA) {
@@ -197,7 +197,7 @@ fn comma_parameters_of(
         tokens,
         defaults,
         |_defaults: bool, token: &Token|
-            ensures { result ≡ has (77 ∷ []) (class token.now) }
+            ensures { result ≡ has (COMMA ∷ []) (class token.now) }
         { class_of(token) == COMMA },
         |defaults: bool, rest: &[Token]|
             ensures read { Gives (λ x. Read x.0.0 x.1.now) result ((comma_item name_codes (parameter (expr 100) defaults)).read rest.now) }

@@ -15,7 +15,7 @@ use crate::words::{
 };
 use phrases::{Fault, Stop};
 use py_ast::{AugmentOperator, Expr, Stmt, StmtForm, Tail, Target};
-use py_expr::class::class_of;
+use py_expr::class::{COMMA, EQUAL, class_of};
 use py_expr::expr::{expr_of, exprs_of};
 use py_expr::token::{Taken, mark, stands};
 use py_lexer::{Kind, Token};
@@ -80,7 +80,7 @@ pub fn assigned_of(alloc: Global, tokens: &[Token]) -> Taken<'_, Tail>
 /// The value behind `=`, if there is one.
 #[tactic(auto, unfolding(py_ast::specs::Statements::optional, py_ast::specs::Grammar::mapped, py_ast::specs::Grammar::past))]
 fn value_of(alloc: Global, tokens: &[Token]) -> Taken<'_, Option<Boxed<Expr>>>
-    ensures read { Gives (λ x. Read x.0 x.1.now) result ((optional (81 ∷ []) (past 81 (exprs (expr 100)))).read tokens.now) }
+    ensures read { Gives (λ x. Read x.0 x.1.now) result ((optional (EQUAL ∷ []) (past EQUAL (exprs (expr 100)))).read tokens.now) }
     ensures no_longer { IfOk result (λ x. length x.1.now ≤ length tokens.now) }
 {
     if !stands(tokens, EQUAL) {
@@ -241,7 +241,7 @@ pub fn word_token(tokens: &[Token], loops: bool) -> Taken<'_, Stmt>
 /// What an assertion says where it fails, if it says something.
 #[tactic(auto, unfolding(py_ast::specs::Statements::optional, py_ast::specs::Grammar::mapped, py_ast::specs::Grammar::past))]
 fn message_of(alloc: Global, tokens: &[Token]) -> Taken<'_, Option<Boxed<Expr>>>
-    ensures read { Gives (λ x. Read x.0 x.1.now) result ((optional (77 ∷ []) (past 77 (expr 100))).read tokens.now) }
+    ensures read { Gives (λ x. Read x.0 x.1.now) result ((optional (COMMA ∷ []) (past COMMA (expr 100))).read tokens.now) }
     ensures no_longer { IfOk result (λ x. length x.1.now ≤ length tokens.now) }
 {
     if !stands(tokens, COMMA) {
