@@ -14,6 +14,7 @@ ghost use Rattle.py_ast.specs.Files.{is_left_out, dots, decorator_name, decorato
 
 use crate::imports::{dot_name_of, dot_names_of, name_of, prepended};
 use crate::literals::{Row, literal_of};
+use crate::steps::{before, with};
 use crate::words::{
     AT, COMMA, EQUAL, LEFT_PAREN, NEWLINE, RIGHT_PAREN, stands_argument, stands_name,
 };
@@ -35,8 +36,8 @@ fn keyword_argument_of(alloc: Global, tokens: &[Token]) -> Taken<'_, Argument>
     ensures shorter { IfOk result (λ x. length x.1.now < length tokens.now) }
 {
     let (name, rest) = name_of(tokens)?;
-    let (_, rest) = mark(rest, EQUAL)?;
-    let (value, rest) = literal_of(alloc, rest)?;
+    let (name, rest) = before(name, rest, EQUAL)?;
+    let ((name, value), rest) = with(name, literal_of(alloc, rest))?;
     Ok((
         Argument {
             keyword: Some(name),
@@ -123,8 +124,7 @@ fn arguments_of(alloc: Global, tokens: &[Token]) -> Taken<'_, Row<Argument>>
 {
     let (first, rest) = argument_of(alloc, tokens, false)?;
     let keyword = has_keyword(&first);
-    let (others, rest) = comma_arguments_of(alloc, rest, keyword)?;
-    Ok(((first, others), rest))
+    with(first, comma_arguments_of(alloc, rest, keyword))
 }
 
 /// Literal arguments between parentheses, or none.
@@ -138,9 +138,9 @@ fn call_of(alloc: Global, tokens: &[Token]) -> Taken<'_, Items<Argument>>
         let (_, rest) = mark(rest, RIGHT_PAREN)?;
         return Ok((Items::new(alloc), rest));
     }
-    let ((first, others), rest) = arguments_of(alloc, rest)?;
-    let (_, rest) = mark(rest, RIGHT_PAREN)?;
-    Ok((as_items(alloc, Some((first, others)))?, rest))
+    let (arguments, rest) = arguments_of(alloc, rest)?;
+    let (arguments, rest) = before(arguments, rest, RIGHT_PAREN)?;
+    Ok((as_items(alloc, Some(arguments))?, rest))
 }
 
 /// Whether a decorator of this one name isn't supported.
@@ -160,7 +160,7 @@ fn dots_of(alloc: Global, tokens: &[Token], dotted: bool) -> Taken<'_, Items<Nam
         return dot_names_of(alloc, tokens);
     }
     let (first, rest) = dot_name_of(tokens)?;
-    let (others, rest) = dot_names_of(alloc, rest)?;
+    let ((first, others), rest) = with(first, dot_names_of(alloc, rest))?;
     Ok((prepended(alloc, first, others)?, rest))
 }
 
@@ -172,7 +172,7 @@ fn decorator_name_of(alloc: Global, tokens: &[Token]) -> Taken<'_, Dotted>
 {
     let (first, rest) = name_of(tokens)?;
     let left_out = is_left_out(&first.name);
-    let (others, rest) = dots_of(alloc, rest, left_out)?;
+    let ((first, others), rest) = with(first, dots_of(alloc, rest, left_out))?;
     Ok((Dotted { first, others }, rest))
 }
 
@@ -197,8 +197,8 @@ fn decorator_of(alloc: Global, tokens: &[Token]) -> Taken<'_, Decorator>
 {
     let (at, rest) = mark(tokens, AT)?;
     let (name, rest) = decorator_name_of(alloc, rest)?;
-    let (arguments, rest) = optional_call_of(alloc, rest)?;
-    let (_, rest) = mark(rest, NEWLINE)?;
+    let (called, rest) = with(name, optional_call_of(alloc, rest))?;
+    let ((name, arguments), rest) = before(called, rest, NEWLINE)?;
     Ok((
         Decorator {
             at,
@@ -234,6 +234,6 @@ pub fn decorators_of(alloc: Global, tokens: &[Token]) -> Taken<'_, Items<Decorat
     ensures shorter { IfOk result (λ x. length x.1.now < length tokens.now) }
 {
     let (first, rest) = decorator_of(alloc, tokens)?;
-    let (others, rest) = further_decorators_of(alloc, rest)?;
+    let ((first, others), rest) = with(first, further_decorators_of(alloc, rest))?;
     Ok((prepended(alloc, first, others)?, rest))
 }

@@ -10,6 +10,7 @@ ghost use Rattle.py_ast.specs.Tokens.{name_codes};
 ghost use Rattle.py_ast.specs.Grammar.{mapped, past, ended, comma_item, comma_items, goes_past};
 ghost use Rattle.py_ast.specs.Statements.{name, dotted, alias, optional, imported_of, imported_name, imported_names, import_stmt, from_stmt, with_commas, cons};
 
+use crate::steps::{before, with};
 use crate::words::{AS, COMMA, DOT, FROM, IMPORT, LEFT_PAREN, RIGHT_PAREN, stands_name};
 use phrases::{Stop, many, series};
 use py_ast::{Dotted, Imported, ImportedName, NameAt, Stmt, StmtForm, given_after};
@@ -75,7 +76,7 @@ pub(crate) fn dotted_of(alloc: Global, tokens: &[Token]) -> Taken<'_, Dotted>
     ensures shorter { IfOk result (λ x. length x.1.now < length tokens.now) }
 {
     let (first, rest) = name_of(tokens)?;
-    let (others, rest) = dot_names_of(alloc, rest)?;
+    let ((first, others), rest) = with(first, dot_names_of(alloc, rest))?;
     Ok((Dotted { first, others }, rest))
 }
 
@@ -99,7 +100,7 @@ fn imported_of(alloc: Global, tokens: &[Token]) -> Taken<'_, Imported>
     ensures shorter { IfOk result (λ x. length x.1.now < length tokens.now) }
 {
     let (name, rest) = dotted_of(alloc, tokens)?;
-    let (alias, rest) = alias_of(rest)?;
+    let ((name, alias), rest) = with(name, alias_of(rest))?;
     Ok((Imported { name, alias }, rest))
 }
 
@@ -139,7 +140,7 @@ pub fn import_of(alloc: Global, tokens: &[Token]) -> Taken<'_, Stmt>
 {
     let (at, rest) = mark(tokens, IMPORT)?;
     let (first, rest) = imported_of(alloc, rest)?;
-    let (others, rest) = all_further_imported_of(alloc, rest)?;
+    let ((first, others), rest) = with(first, all_further_imported_of(alloc, rest))?;
     let form = StmtForm::Import(prepended(alloc, first, others)?);
     Ok((
         Stmt {
@@ -158,7 +159,7 @@ fn imported_name_of(tokens: &[Token]) -> Taken<'_, ImportedName>
     ensures shorter { IfOk result (λ x. length x.1.now < length tokens.now) }
 {
     let (name, rest) = name_of(tokens)?;
-    let (alias, rest) = alias_of(rest)?;
+    let ((name, alias), rest) = with(name, alias_of(rest))?;
     Ok((ImportedName { name, alias }, rest))
 }
 
@@ -233,13 +234,13 @@ fn imported_names_of(alloc: Global, tokens: &[Token]) -> Taken<'_, Items<Importe
 {
     if stands_name(tokens) {
         let (first, rest) = imported_name_of(tokens)?;
-        let (others, rest) = further_names_of(alloc, rest)?;
+        let ((first, others), rest) = with(first, further_names_of(alloc, rest))?;
         return Ok((prepended(alloc, first, others)?, rest));
     }
     let (_, rest) = mark(tokens, LEFT_PAREN)?;
     let (first, rest) = imported_name_of(rest)?;
-    let (others, rest) = comma_names_of(alloc, rest)?;
-    let (_, rest) = mark(rest, RIGHT_PAREN)?;
+    let (names, rest) = with(first, comma_names_of(alloc, rest))?;
+    let ((first, others), rest) = before(names, rest, RIGHT_PAREN)?;
     Ok((given_after(alloc, first, others)?, rest))
 }
 
@@ -251,8 +252,8 @@ pub fn from_of(alloc: Global, tokens: &[Token]) -> Taken<'_, Stmt>
 {
     let (at, rest) = mark(tokens, FROM)?;
     let (module, rest) = dotted_of(alloc, rest)?;
-    let (_, rest) = mark(rest, IMPORT)?;
-    let (names, rest) = imported_names_of(alloc, rest)?;
+    let (module, rest) = before(module, rest, IMPORT)?;
+    let ((module, names), rest) = with(module, imported_names_of(alloc, rest))?;
     let form = StmtForm::ImportFrom(module, names);
     Ok((
         Stmt {

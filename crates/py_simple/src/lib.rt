@@ -5,6 +5,7 @@
 //! that there is no memory left for the tree. Each is linear in the tokens that it takes.
 //!
 //! * `words`: which tokens begin what;
+//! * `steps`: what was read, kept while more is read;
 //! * `imports`: names, dotted names and imports;
 //! * `names`: names of loops, parameters, bases of classes;
 //! * `simple`: all other simple statements, and what they are made of;
@@ -16,4 +17,5 @@ pub mod imports;
 pub mod literals;
 pub mod names;
 pub mod simple;
+pub mod steps;
 pub mod words;

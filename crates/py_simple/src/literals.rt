@@ -14,6 +14,7 @@ ghost use Rattle.py_ast.specs.Literals.{literal_of, literal_first, texts, litera
 ghost use Rattle.py_simple.specs.Literals.{ReadsLiterals};
 
 use crate::simple::NESTINGS;
+use crate::steps::{before, with};
 use crate::words::{
     COLON, COMMA, LEFT_BRACE, LEFT_BRACKET, LEFT_PAREN, RIGHT_BRACE, RIGHT_BRACKET, RIGHT_PAREN,
     TEXT, stands_literal, stands_literal_token,
@@ -161,8 +162,7 @@ where
     ensures shorter { IfOk result (λ x. length x.1.now < length tokens.now) }
 {
     let (first, rest) = inner_literal_of(tokens, room, literal)?;
-    let (others, rest) = comma_literals_of(alloc, rest, room, literal)?;
-    Ok(((first, others), rest))
+    with(first, comma_literals_of(alloc, rest, room, literal))
 }
 
 /// Literals up to a closing bracket, or none.
@@ -185,9 +185,9 @@ where
         let (_, rest) = mark(tokens, closing)?;
         return Ok((None, rest));
     }
-    let ((first, others), rest) = literals_of(alloc, tokens, room, literal)?;
-    let (_, rest) = mark(rest, closing)?;
-    Ok((Some((first, others)), rest))
+    let (literals, rest) = literals_of(alloc, tokens, room, literal)?;
+    let (literals, rest) = before(literals, rest, closing)?;
+    Ok((Some(literals), rest))
 }
 
 /// A pair of a dictionary display.
@@ -201,8 +201,8 @@ where
     ensures shorter { IfOk result (λ x. length x.1.now < length tokens.now) }
 {
     let (key, rest) = inner_literal_of(tokens, room, literal)?;
-    let (_, rest) = mark(rest, COLON)?;
-    let (value, rest) = inner_literal_of(rest, room, literal)?;
+    let (key, rest) = before(key, rest, COLON)?;
+    let ((key, value), rest) = with(key, inner_literal_of(rest, room, literal))?;
     Ok((Pair { key, value }, rest))
 }
 
@@ -276,8 +276,7 @@ where
     ensures shorter { IfOk result (λ x. length x.1.now < length tokens.now) }
 {
     let (first, rest) = pair_of(tokens, room, literal)?;
-    let (others, rest) = comma_pairs_of(alloc, rest, room, literal)?;
-    Ok(((first, others), rest))
+    with(first, comma_pairs_of(alloc, rest, room, literal))
 }
 
 /// Pairs up to the closing brace, or none.
@@ -299,9 +298,9 @@ where
         let (_, rest) = mark(tokens, RIGHT_BRACE)?;
         return Ok((None, rest));
     }
-    let ((first, others), rest) = pairs_of(alloc, tokens, room, literal)?;
-    let (_, rest) = mark(rest, RIGHT_BRACE)?;
-    Ok((Some((first, others)), rest))
+    let (pairs, rest) = pairs_of(alloc, tokens, room, literal)?;
+    let (pairs, rest) = before(pairs, rest, RIGHT_BRACE)?;
+    Ok((Some(pairs), rest))
 }
 
 /// Literals in parentheses.

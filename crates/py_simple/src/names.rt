@@ -12,6 +12,7 @@ ghost use Rattle.py_ast.specs.Statements.{name, optional, further_names, loop_na
 
 use crate::imports::{dotted_of, name_of, prepended};
 use crate::simple::NESTINGS;
+use crate::steps::{before, with};
 use crate::words::{ARROW, COLON, COMMA, EQUAL, LEFT_PAREN, NAME, RIGHT_PAREN, stands_name};
 use phrases::{Fault, Stop, series};
 use py_ast::{Dotted, Expr, NameAt, Parameter, given_after};
@@ -77,7 +78,7 @@ fn further_names_of(alloc: Global, tokens: &[Token]) -> Taken<'_, Items<NameAt>>
 {
     let (_, rest) = mark(tokens, COMMA)?;
     let (first, rest) = name_of(rest)?;
-    let (others, rest) = comma_names_of(alloc, rest)?;
+    let ((first, others), rest) = with(first, comma_names_of(alloc, rest))?;
     Ok((given_after(alloc, first, others)?, rest))
 }
 
@@ -101,13 +102,13 @@ pub fn loop_names_of(alloc: Global, tokens: &[Token]) -> Taken<'_, Items<NameAt>
 {
     if stands_name(tokens) {
         let (first, rest) = name_of(tokens)?;
-        let (others, rest) = more_names_of(alloc, rest)?;
+        let ((first, others), rest) = with(first, more_names_of(alloc, rest))?;
         return Ok((prepended(alloc, first, others)?, rest));
     }
     let (_, rest) = mark(tokens, LEFT_PAREN)?;
     let (first, rest) = name_of(rest)?;
-    let (others, rest) = further_names_of(alloc, rest)?;
-    let (_, rest) = mark(rest, RIGHT_PAREN)?;
+    let (names, rest) = with(first, further_names_of(alloc, rest))?;
+    let ((first, others), rest) = before(names, rest, RIGHT_PAREN)?;
     Ok((prepended(alloc, first, others)?, rest))
 }
 
@@ -146,8 +147,8 @@ fn parameter_of(alloc: Global, tokens: &[Token], defaults: bool) -> Taken<'_, Pa
     ensures shorter { IfOk result (λ x. length x.1.now < length tokens.now) }
 {
     let (name, rest) = name_of(tokens)?;
-    let (annotation, rest) = expr_behind(alloc, rest, COLON)?;
-    let (default, rest) = default_of(alloc, rest, defaults)?;
+    let (annotated, rest) = with(name, expr_behind(alloc, rest, COLON))?;
+    let (((name, annotation), default), rest) = with(annotated, default_of(alloc, rest, defaults))?;
     Ok((
         Parameter {
             name,
@@ -215,7 +216,7 @@ fn parameters_of(alloc: Global, tokens: &[Token]) -> Taken<'_, Items<Parameter>>
 {
     let (first, rest) = parameter_of(alloc, tokens, false)?;
     let defaults = has_default(&first);
-    let (others, rest) = comma_parameters_of(alloc, rest, defaults)?;
+    let ((first, others), rest) = with(first, comma_parameters_of(alloc, rest, defaults))?;
     Ok((given_after(alloc, first, others)?, rest))
 }
 
@@ -231,8 +232,7 @@ fn all_parameters_of(alloc: Global, tokens: &[Token]) -> Taken<'_, Items<Paramet
         return Ok((Items::new(alloc), rest));
     }
     let (parameters, rest) = parameters_of(alloc, rest)?;
-    let (_, rest) = mark(rest, RIGHT_PAREN)?;
-    Ok((parameters, rest))
+    before(parameters, rest, RIGHT_PAREN)
 }
 
 /// The expression, if there is one, in a place of its own.
@@ -275,6 +275,6 @@ pub fn base_of(alloc: Global, tokens: &[Token]) -> Taken<'_, Option<Dotted>>
         return Ok((None, rest));
     }
     let (base, rest) = dotted_of(alloc, rest)?;
-    let (_, rest) = mark(rest, RIGHT_PAREN)?;
+    let (base, rest) = before(base, rest, RIGHT_PAREN)?;
     Ok((Some(base), rest))
 }

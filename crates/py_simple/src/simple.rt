@@ -9,6 +9,7 @@ ghost use Rattle.py_ast.specs.Kinds.{class, mark_of};
 ghost use Rattle.py_ast.specs.Grammar.{expr_first, mapped, past, exprs, expr};
 ghost use Rattle.py_ast.specs.Statements.{optional, stmt_at, augment_codes, augment_in, augment_of, assigned, annotated, augmented, tail, begun, begun_stmt, word_codes, word_in, word_of, assert_stmt, return_stmt, assert_or_return, simple};
 
+use crate::steps::with;
 use crate::words::{
     ASSERT, COLON, COMMA, EQUAL, RETURN, is_augmented, is_word, stands_augmented, stands_expr,
     stands_word,
@@ -100,7 +101,7 @@ pub fn annotated_of(alloc: Global, tokens: &[Token]) -> Taken<'_, Tail>
     let (at, rest) = mark(tokens, COLON)?;
     let (annotation, rest) = expr_of(alloc, rest, NESTINGS)?;
     let annotation = Boxed::new(alloc, annotation)?;
-    let (value, rest) = value_of(alloc, rest)?;
+    let ((annotation, value), rest) = with(annotation, value_of(alloc, rest))?;
     Ok((Tail::Annotated(at, annotation, value), rest))
 }
 
@@ -193,7 +194,7 @@ fn begun_of(alloc: Global, tokens: &[Token]) -> Taken<'_, Stmt>
 {
     let (first, rest) = exprs_of(alloc, tokens, NESTINGS)?;
     let target = first.target();
-    let (tail, rest) = tail_of(alloc, rest, target)?;
+    let ((first, tail), rest) = with(first, tail_of(alloc, rest, target))?;
     Ok((begun_with(first, tail), rest))
 }
 
@@ -259,7 +260,7 @@ fn assert_of(alloc: Global, tokens: &[Token]) -> Taken<'_, Stmt>
 {
     let (at, rest) = mark(tokens, ASSERT)?;
     let (condition, rest) = expr_of(alloc, rest, NESTINGS)?;
-    let (message, rest) = message_of(alloc, rest)?;
+    let ((condition, message), rest) = with(condition, message_of(alloc, rest))?;
     Ok((word_stmt(at, StmtForm::Assert(condition, message)), rest))
 }
 
