@@ -139,8 +139,9 @@ where
 {
     let (node, rest) = open(tokens, LEFT_BRACKET, room)?;
     let (index, rest) = exprs_by(alloc, rest, room, inner)?;
-    let ((index, _), rest) = with(index, mark(rest, RIGHT_BRACKET))?;
-    let form = StepForm::Subscript(Boxed::new(alloc, index)?);
+    let index = Boxed::new(alloc, index)?;
+    let (_, rest) = mark(rest, RIGHT_BRACKET)?;
+    let form = StepForm::Subscript(index);
     Ok((Step { node, form }, rest))
 }
 
