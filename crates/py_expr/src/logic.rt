@@ -32,7 +32,7 @@ where
 }
 
 /// Operands of `or`, or one alone, where the first inversion was read and the tokens begin behind it.
-#[tactic(auto, unfolding(py_ast::specs::Grammar::conjunction, py_ast::specs::Grammar::disjunction))]
+#[tactic(auto, unfolding(py_ast::specs::Grammar::disjunction))]
 pub fn disjunction_by<'a, F>(
     alloc: Global,
     first: Expr,
@@ -48,7 +48,27 @@ where
     ensures no_longer { IfOk result (λ x. length x.1.now ≤ length tokens.now) }
 {
     let (first, rest) = conjunction_from(alloc, first, tokens, room, &inversion)?;
-    let ((first, others), rest) = with(first, alternatives_by(alloc, rest, room, &inversion))?;
+    let (value, rest) = alternatives_from(alloc, first, rest, room, &inversion)?;
+    Ok((value, rest))
+}
+
+/// Operands of `or`, or one alone, where the first operand was read and the tokens begin behind it.
+#[tactic(auto, unfolding(py_ast::specs::Grammar::disjunction))]
+fn alternatives_from<'a, F>(
+    alloc: Global,
+    first: Expr,
+    tokens: &'a [Token],
+    room: u8,
+    inversion: &F,
+) -> Taken<'a, Expr>
+where
+    F: Fn(&[Token]) -> Taken<'_, Expr>,
+    requires can_call { F.IsAlwaysCallable inversion.now }
+    requires reads { ReadsSome (λ ts r. F.post inversion.now ts r) (shaped Inversion room).read }
+    ensures read { (ts : List Token) → (conjunction (shaped Inversion room)).read ts ≡ Read first tokens.now → Gives (λ x. Read x.0 x.1.now) result ((disjunction (conjunction (shaped Inversion room))).read ts) }
+    ensures no_longer { IfOk result (λ x. length x.1.now ≤ length tokens.now) }
+{
+    let ((first, others), rest) = with(first, alternatives_by(alloc, tokens, room, inversion))?;
     Ok((as_or(alloc, first, others)?, rest))
 }
 

@@ -7,7 +7,7 @@ ghost use Rattle.phrases.specs.Phrases.{opener, sequence};
 ghost use Rattle.phrases.specs.Loops.{Gives, opening};
 ghost use Rattle.py_ast.specs.Kinds.{class, mark_of};
 ghost use Rattle.py_ast.specs.Trees.{given, has_keyword, bare_name, keyword_argument_of, argument_of};
-ghost use Rattle.py_ast.specs.Grammar.{mapped, past, step_first, step_next, argument_first, comma_item, goes_past, after_argument, argument, call, subscript, step, chain, atom, primary, Whole, nested};
+ghost use Rattle.py_ast.specs.Grammar.{mapped, past, ended, step_first, step_next, argument_first, comma_item, goes_past, after_argument, argument, exprs, call, subscript, step, chain, atom, primary, Whole, nested};
 ghost use Rattle.py_expr.specs.Readers.{ReadsSome};
 
 use crate::atom::atom_by;
@@ -128,7 +128,7 @@ where
     Ok(((step, Some(callable)), rest))
 }
 
-#[tactic(auto, unfolding(py_ast::specs::Grammar::subscript, py_ast::specs::Grammar::ended))]
+#[tactic(auto, unfolding(py_ast::specs::Grammar::subscript))]
 fn subscript_by<'a, F>(alloc: Global, tokens: &'a [Token], room: u8, inner: &F) -> Taken<'a, Step>
 where
     F: Fn(&[Token]) -> Taken<'_, Expr>,
@@ -138,10 +138,30 @@ where
     ensures shorter { IfOk result (λ x. length x.1.now < length tokens.now) }
 {
     let (node, rest) = open(tokens, LEFT_BRACKET, room)?;
-    let (index, rest) = exprs_by(alloc, rest, room, inner)?;
-    let ((index, _), rest) = with(index, mark(rest, RIGHT_BRACKET))?;
-    let form = StepForm::Subscript(Boxed::new(alloc, index)?);
+    let (index, rest) = index_by(alloc, rest, room, inner)?;
+    let form = StepForm::Subscript(index);
     Ok((Step { node, form }, rest))
+}
+
+/// What stands in the brackets of a subscript, and the bracket behind it.
+#[tactic(auto, unfolding(py_ast::specs::Grammar::ended))]
+fn index_by<'a, F>(
+    alloc: Global,
+    tokens: &'a [Token],
+    room: u8,
+    inner: &F,
+) -> Taken<'a, Boxed<Expr>>
+where
+    F: Fn(&[Token]) -> Taken<'_, Expr>,
+    requires can_call { F.IsAlwaysCallable inner.now }
+    requires reads { ReadsSome (λ ts r. F.post inner.now ts r) (nested room Whole).read }
+    ensures read { Gives (λ x. Read x.0 x.1.now) result ((ended (exprs (nested room Whole)) 74).read tokens.now) }
+    ensures shorter { IfOk result (λ x. length x.1.now < length tokens.now) }
+{
+    let (index, rest) = exprs_by(alloc, tokens, room, inner)?;
+    let index = Boxed::new(alloc, index)?;
+    let (_, rest) = mark(rest, RIGHT_BRACKET)?;
+    Ok((index, rest))
 }
 
 /// A call: the arguments in its brackets. Most have none or one.

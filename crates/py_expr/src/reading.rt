@@ -7,6 +7,7 @@ ghost use Rattle.py_expr.specs.Judged.{deepest, Meant, StandsAt, IsStop, IsPlain
 
 use crate::error::SyntaxError;
 use crate::expr::expr_of;
+use crate::steps::unless;
 use crate::token::Taken;
 use phrases::{Fault, Stop};
 use py_ast::Expr;
@@ -76,9 +77,9 @@ fn judged_whole(
     ensures { Judged at tokens.now result }
 {
     let run = run_before(tokens, rest);
-    match told_behind(tokens, run, rest) {
-        Some((form, place)) => Err(SyntaxError::Unsupported(form, place)),
-        None => Ok((value, at + run.len())),
+    match unless(value, told_behind(tokens, run, rest)) {
+        Err((form, place)) => Err(SyntaxError::Unsupported(form, place)),
+        Ok(value) => Ok((value, at + run.len())),
     }
 }
 

@@ -32,6 +32,19 @@ pub fn replaced<A: Drop, B: Drop>(first: A, keyed: Option<(B, A)>) -> (Option<B>
     }
 }
 
+/// A value, where nothing was found in its place.
+#[inline(always)]
+pub fn unless<A: Drop, B: Drop>(value: A, found: Option<B>) -> Result<A, B>
+    ensures value { IfOk result (λ v. v ≡ value) }
+    ensures none { IfOk result (λ v. found ≡ None) }
+    ensures found { IfErr result (λ b. found ≡ Some b) }
+{
+    match found {
+        None => Ok(value),
+        Some(found) => Err(found),
+    }
+}
+
 /// Two values, each in a box.
 #[inline(always)]
 pub fn boxed_two<A: Drop, B: Drop>(
