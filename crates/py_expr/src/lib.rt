@@ -29,7 +29,7 @@ mod operator;
 pub mod parts;
 mod primary;
 pub mod reading;
-mod steps;
+pub mod steps;
 pub mod strings;
 pub mod token;
 

@@ -16,14 +16,14 @@ ghost use Rattle.py_parser.specs.Suites.{ReadsSuites};
 use crate::lines::one_more;
 use phrases::many;
 use py_ast::{Branch, NameAt, Stmt, StmtForm, Suite};
-use py_expr::class::{ELIF, class_of};
+use py_expr::class::{COLON, ELIF, ELSE, FOR, IF, IN, WHILE, class_of};
 use py_expr::expr::{expr_of, exprs_of};
+use py_expr::reading::DEEPEST;
 use py_expr::token::{Taken, mark, open, stands};
 use py_lexer::Token;
 use py_literals::place::Pos;
 use py_simple::names::loop_names_of;
-use py_simple::simple::{NESTINGS, word_stmt};
-use py_simple::words::{COLON, ELIF, ELSE, FOR, IF, IN, WHILE};
+use py_simple::simple::word_stmt;
 use sqlite_items::Items;
 use std::alloc::Global;
 
@@ -81,7 +81,7 @@ where
     ensures shorter { IfOk result (λ x. length x.1.now < length tokens.now) }
 {
     let (at, rest) = mark(tokens, word)?;
-    let (condition, rest) = expr_of(alloc, rest, NESTINGS)?;
+    let (condition, rest) = expr_of(alloc, rest, DEEPEST)?;
     let (body, rest) = block_of(rest, room, kind, suite)?;
     Ok((
         Branch {
@@ -186,7 +186,7 @@ where
     ensures shorter { IfOk result (λ x. length x.1.now < length tokens.now) }
 {
     let (at, rest) = mark(tokens, WHILE)?;
-    let (condition, rest) = expr_of(alloc, rest, NESTINGS)?;
+    let (condition, rest) = expr_of(alloc, rest, DEEPEST)?;
     let (body, rest) = block_of(rest, room, kind, suite)?;
     Ok((word_stmt(at, StmtForm::While(condition, body)), rest))
 }
@@ -220,7 +220,7 @@ where
     let (node, rest) = mark(tokens, FOR)?;
     let (names, rest) = loop_names_of(alloc, rest)?;
     let (_, rest) = mark(rest, IN)?;
-    let (iterated, rest) = exprs_of(alloc, rest, NESTINGS)?;
+    let (iterated, rest) = exprs_of(alloc, rest, DEEPEST)?;
     let (body, rest) = block_of(rest, room, kind, suite)?;
     let anchor = names_anchor(node, names.as_slice());
     Ok((

@@ -13,13 +13,13 @@ ghost use Rattle.py_parser.specs.Suites.{ReadsSuites};
 use crate::blocks::block_of;
 use crate::lines::one_more;
 use py_ast::{Class, Decorator, Function, Stmt, StmtForm, Suite};
+use py_expr::class::{AT, CLASS, DEF};
 use py_expr::token::{Taken, mark, stands};
 use py_lexer::Token;
 use py_simple::decorators::decorators_of;
 use py_simple::imports::name_of;
 use py_simple::names::{base_of, signature_of};
 use py_simple::simple::word_stmt;
-use py_simple::words::{AT, CLASS, DEF};
 use sqlite_items::Items;
 use std::alloc::Global;
 

@@ -17,18 +17,15 @@ use crate::lines::{Simples, line_into};
 use crate::lists::many_into;
 use crate::suites::suite_of;
 use py_ast::{Stmt, Suite};
-use py_expr::class::class_of;
+use py_expr::class::{NEWLINE, class_of};
+use py_expr::reading::DEEPEST;
 use py_expr::token::{Taken, mark, stands};
 use py_lexer::Token;
 use py_simple::words::{
-    NEWLINE, begins_compound, begins_definition, begins_file_simple, stands_compound,
-    stands_definition,
+    begins_compound, begins_definition, begins_file_simple, stands_compound, stands_definition,
 };
 use sqlite_items::Items;
 use std::alloc::Global;
-
-/// So many blocks may be open, one in another.
-const BLOCKS: u8 = 100;
 
 /// The statements, and then one of a file, or a line of simple ones.
 #[tactic(auto, unfolding(py_ast::specs::Files::file_statement, crate::specs::Lines::simples))]
@@ -41,14 +38,14 @@ fn statement_into<'a, S>(
 where
     S: Fn(Suite, &[Token]) -> Taken<'_, Items<Stmt>>,
     requires callable { S.IsAlwaysCallable suite }
-    requires reads { ReadsSuites (λ s ts r. S.post suite s ts r) 100 }
-    ensures read { Gives (λ x. Read x.0.items x.1.now) result (with_front before.items ((file_statement (expr 100) (literal 100) 100 (suites 100 100)).read tokens.now)) }
+    requires reads { ReadsSuites (λ s ts r. S.post suite s ts r) DEEPEST }
+    ensures read { Gives (λ x. Read x.0.items x.1.now) result (with_front before.items ((file_statement (expr 100) (literal 100) DEEPEST (suites 100 100)).read tokens.now)) }
     ensures shorter { IfOk result (λ x. length x.1.now < length tokens.now) }
 {
     if stands_definition(tokens) {
-        definition_into(alloc, tokens, BLOCKS, &suite, before)
+        definition_into(alloc, tokens, DEEPEST, &suite, before)
     } else if stands_compound(tokens) {
-        compound_into(alloc, tokens, BLOCKS, false, false, &suite, before)
+        compound_into(alloc, tokens, DEEPEST, false, false, &suite, before)
     } else {
         line_into(alloc, tokens, Simples::OfFile, before)
     }
@@ -57,7 +54,7 @@ where
 /// The statements, and then an empty line or more of them.
 #[tactic(auto, using(phrases::proofs::Sets::append_none), unfolding(py_ast::specs::Files::file_item))]
 fn item_into(alloc: Global, tokens: &[Token], before: Vec<Stmt>) -> Taken<'_, Vec<Stmt>>
-    ensures read { Gives (λ x. Read x.0.items x.1.now) result (with_front before.items ((file_item (expr 100) (literal 100) 100 (suites 100 100)).read tokens.now)) }
+    ensures read { Gives (λ x. Read x.0.items x.1.now) result (with_front before.items ((file_item (expr 100) (literal 100) DEEPEST (suites 100 100)).read tokens.now)) }
     ensures shorter { IfOk result (λ x. length x.1.now < length tokens.now) }
 {
     if stands(tokens, NEWLINE) {
@@ -70,7 +67,7 @@ fn item_into(alloc: Global, tokens: &[Token], before: Vec<Stmt>) -> Taken<'_, Ve
         |kind: Suite, rest: &[Token]|
             ensures read { Gives (λ x. Read x.0 x.1.now) result ((suites 100 100 kind).read rest.now) }
             ensures shorter { IfOk result (λ x. length x.1.now < length rest.now) }
-        { suite_of(alloc, rest, BLOCKS, kind) },
+        { suite_of(alloc, rest, DEEPEST, kind) },
         before,
     )
 }
@@ -98,7 +95,7 @@ fn lines_into(alloc: Global, tokens: &[Token], before: Vec<Stmt>) -> Taken<'_, V
             ensures { result ≡ has file_first (class token.now) }
         { begins_item(class_of(token)) },
         |rest: &[Token], all: Vec<Stmt>|
-            ensures read { Gives (λ x. Read x.0.items x.1.now) result (with_front all.items ((file_item (expr 100) (literal 100) 100 (suites 100 100)).read rest.now)) }
+            ensures read { Gives (λ x. Read x.0.items x.1.now) result (with_front all.items ((file_item (expr 100) (literal 100) DEEPEST (suites 100 100)).read rest.now)) }
             ensures shorter { IfOk result (λ x. length x.1.now < length rest.now) }
         { item_into(alloc, rest, all) },
     )

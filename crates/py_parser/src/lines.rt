@@ -15,7 +15,7 @@ ghost use Rattle.py_parser.specs.Lines.{simples, simples_first, simples_line, be
 use crate::lists::appended;
 use phrases::series;
 use py_ast::{Constant, Expr, Form, NameAt, Stmt, Tail, given_after};
-use py_expr::class::{EQUAL, SEMICOLON, class_of};
+use py_expr::class::{DEDENT, ELLIPSIS, EQUAL, FROM, IMPORT, NAME, NEWLINE, SEMICOLON, class_of};
 use py_expr::token::{Taken, make_leaf, mark, stands};
 use py_lexer::Token;
 use py_literals::place::Pos;
@@ -23,10 +23,7 @@ use py_simple::imports::{from_of, import_of};
 use py_simple::literals::texts_of;
 use py_simple::names::plain_name_of;
 use py_simple::simple::{annotated_of, assigned_of, begun_with, simple_of, word_token};
-use py_simple::words::{
-    DEDENT, ELLIPSIS, EQUAL, FROM, IMPORT, NAME, NEWLINE, SEMICOLON, begins_file_simple,
-    begins_member, begins_simple, stands_word,
-};
+use py_simple::words::{begins_file_simple, begins_member, begins_simple, stands_word};
 use sqlite_items::Items;
 use std::alloc::{AllocError, Global};
 

@@ -21,12 +21,12 @@ use crate::lines::{Simples, line_into};
 use crate::lists::many_into;
 use phrases::{Fault, Stop};
 use py_ast::{Stmt, Suite};
-use py_expr::class::class_of;
+use py_expr::class::{DEDENT, INDENT, NEWLINE, class_of};
 use py_expr::token::{Taken, mark, stands};
 use py_lexer::Token;
 use py_simple::words::{
-    DEDENT, INDENT, NEWLINE, begins_compound, begins_function, begins_member, begins_simple,
-    stands_compound, stands_function,
+    begins_compound, begins_function, begins_member, begins_simple, stands_compound,
+    stands_function,
 };
 use sqlite_items::Items;
 use std::alloc::Global;

@@ -14,14 +14,13 @@ ghost use Rattle.py_ast.specs.Files.{is_left_out, dots, decorator_name, decorato
 
 use crate::imports::{dot_name_of, dot_names_of, name_of, prepended};
 use crate::literals::{Row, literal_of};
-use crate::steps::{before, with};
-use crate::words::{
-    AT, COMMA, EQUAL, LEFT_PAREN, NEWLINE, RIGHT_PAREN, stands_argument, stands_name,
-};
+use crate::steps::before;
+use crate::words::{stands_argument, stands_name};
 use phrases::{many, series};
 use py_ast::{Argument, Decorator, Dotted, NameAt};
 use py_expr::build::as_items;
-use py_expr::class::{AT, COMMA, LEFT_PAREN, class_of};
+use py_expr::class::{AT, COMMA, EQUAL, LEFT_PAREN, NEWLINE, RIGHT_PAREN, class_of};
+use py_expr::steps::with;
 use py_expr::token::{Taken, mark, stands};
 use py_lexer::Token;
 use py_literals::place::Pos;

@@ -10,11 +10,12 @@ ghost use Rattle.py_ast.specs.Tokens.{name_codes};
 ghost use Rattle.py_ast.specs.Grammar.{mapped, past, ended, comma_item, comma_items, goes_past};
 ghost use Rattle.py_ast.specs.Statements.{name, dotted, alias, optional, imported_of, imported_name, imported_names, import_stmt, from_stmt, with_commas, cons};
 
-use crate::steps::{before, with};
-use crate::words::{AS, COMMA, DOT, FROM, IMPORT, LEFT_PAREN, RIGHT_PAREN, stands_name};
+use crate::steps::before;
+use crate::words::stands_name;
 use phrases::{Stop, many, series};
 use py_ast::{Dotted, Imported, ImportedName, NameAt, Stmt, StmtForm, given_after};
-use py_expr::class::{COMMA, DOT, class_of};
+use py_expr::class::{AS, COMMA, DOT, FROM, IMPORT, LEFT_PAREN, RIGHT_PAREN, class_of};
+use py_expr::steps::with;
 use py_expr::token::{Taken, mark, name_token, stands};
 use py_lexer::Token;
 use py_literals::place::Pos;

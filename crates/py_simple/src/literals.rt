@@ -13,19 +13,17 @@ ghost use Rattle.py_ast.specs.Grammar.{mapped, ended, second, bracketed, comma_i
 ghost use Rattle.py_ast.specs.Literals.{literal_of, literal_first, texts, literals, literal_pair, literal_pairs, literal_over, nested_literal, literal};
 ghost use Rattle.py_simple.specs.Literals.{ReadsLiterals};
 
-use crate::simple::NESTINGS;
-use crate::steps::{before, with};
-use crate::words::{
-    COLON, COMMA, LEFT_BRACE, LEFT_BRACKET, LEFT_PAREN, RIGHT_BRACE, RIGHT_BRACKET, RIGHT_PAREN,
-    TEXT, stands_literal, stands_literal_token,
-};
+use crate::steps::before;
+use crate::words::{stands_literal, stands_literal_token};
 use phrases::{Fault, Stop, many, series};
 use py_ast::{Expr, Form, Pair, Piece};
 use py_expr::build::{as_items, as_parenthesized};
 use py_expr::class::{
-    COMMA, LEFT_BRACE, LEFT_BRACKET, LEFT_PAREN, RIGHT_BRACE, RIGHT_BRACKET, RIGHT_PAREN, TEXT,
-    class_of,
+    COLON, COMMA, LEFT_BRACE, LEFT_BRACKET, LEFT_PAREN, RIGHT_BRACE, RIGHT_BRACKET, RIGHT_PAREN,
+    TEXT, class_of,
 };
+use py_expr::reading::DEEPEST;
+use py_expr::steps::with;
 use py_expr::strings::as_strings;
 use py_expr::token::{Taken, leaf_token, make_leaf, mark, open, stands, text_token};
 use py_lexer::Token;
@@ -431,10 +429,10 @@ pub(crate) fn literal_of(alloc: Global, tokens: &[Token]) -> Taken<'_, Expr>
     literal_over_of(
         alloc,
         tokens,
-        NESTINGS,
+        DEEPEST,
         |rest: &[Token]|
             ensures read { Gives (λ x. Read x.0 x.1.now) result ((nested_literal 100 (tt {0})).read rest.now) }
             ensures shorter { IfOk result (λ x. length x.1.now < length rest.now) }
-        { nested_literal_of(alloc, rest, NESTINGS) },
+        { nested_literal_of(alloc, rest, DEEPEST) },
     )
 }

@@ -11,13 +11,14 @@ ghost use Rattle.py_ast.specs.Grammar.{mapped, past, ended, second, comma_item, 
 ghost use Rattle.py_ast.specs.Statements.{name, optional, further_names, loop_names, parameter, default, has_default, parameters, in_parentheses, signature, base, all_of};
 
 use crate::imports::{dotted_of, name_of, prepended};
-use crate::simple::NESTINGS;
-use crate::steps::{before, with};
-use crate::words::{ARROW, COLON, COMMA, EQUAL, LEFT_PAREN, NAME, RIGHT_PAREN, stands_name};
+use crate::steps::before;
+use crate::words::stands_name;
 use phrases::{Fault, Stop, series};
 use py_ast::{Dotted, Expr, NameAt, Parameter, given_after};
-use py_expr::class::{COMMA, NAME, class_of};
+use py_expr::class::{ARROW, COLON, COMMA, EQUAL, LEFT_PAREN, NAME, RIGHT_PAREN, class_of};
 use py_expr::expr::expr_of;
+use py_expr::reading::DEEPEST;
+use py_expr::steps::with;
 use py_expr::token::{Taken, mark, stands};
 use py_lexer::Token;
 use py_literals::place::Pos;
@@ -122,7 +123,7 @@ fn expr_behind(alloc: Global, tokens: &[Token], code: u8) -> Taken<'_, Option<Ex
         return Ok((None, tokens));
     }
     let (_, rest) = mark(tokens, code)?;
-    let (value, rest) = expr_of(alloc, rest, NESTINGS)?;
+    let (value, rest) = expr_of(alloc, rest, DEEPEST)?;
     Ok((Some(value), rest))
 }
 
@@ -136,7 +137,7 @@ fn default_of(alloc: Global, tokens: &[Token], defaults: bool) -> Taken<'_, Opti
         return expr_behind(alloc, tokens, EQUAL);
     }
     let (_, rest) = mark(tokens, EQUAL)?;
-    let (value, rest) = expr_of(alloc, rest, NESTINGS)?;
+    let (value, rest) = expr_of(alloc, rest, DEEPEST)?;
     Ok((Some(value), rest))
 }
 

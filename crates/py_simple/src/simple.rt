@@ -9,23 +9,18 @@ ghost use Rattle.py_ast.specs.Kinds.{class, mark_of};
 ghost use Rattle.py_ast.specs.Grammar.{expr_first, mapped, past, exprs, expr};
 ghost use Rattle.py_ast.specs.Statements.{optional, stmt_at, augment_codes, augment_in, augment_of, assigned, annotated, augmented, tail, begun, begun_stmt, word_codes, word_in, word_of, assert_stmt, return_stmt, assert_or_return, simple};
 
-use crate::steps::with;
-use crate::words::{
-    ASSERT, COLON, COMMA, EQUAL, RETURN, is_augmented, is_word, stands_augmented, stands_expr,
-    stands_word,
-};
+use crate::words::{is_augmented, is_word, stands_augmented, stands_expr, stands_word};
 use phrases::{Fault, Stop};
 use py_ast::{AugmentOperator, Expr, Stmt, StmtForm, Tail, Target};
-use py_expr::class::{COMMA, EQUAL, class_of};
+use py_expr::class::{ASSERT, COLON, COMMA, EQUAL, RETURN, class_of};
 use py_expr::expr::{expr_of, exprs_of};
+use py_expr::reading::DEEPEST;
+use py_expr::steps::with;
 use py_expr::token::{Taken, mark, stands};
 use py_lexer::{Kind, Token};
 use py_literals::place::Pos;
 use sqlite_items::Boxed;
 use std::alloc::Global;
-
-/// How deep expressions may nest.
-pub const NESTINGS: u8 = 100;
 
 fn augment_in(kind: Kind) -> Option<AugmentOperator>
     ensures { result ≡ augment_in kind }
@@ -74,7 +69,7 @@ pub fn assigned_of(alloc: Global, tokens: &[Token]) -> Taken<'_, Tail>
     ensures shorter { IfOk result (λ x. length x.1.now < length tokens.now) }
 {
     let (at, rest) = mark(tokens, EQUAL)?;
-    let (value, rest) = exprs_of(alloc, rest, NESTINGS)?;
+    let (value, rest) = exprs_of(alloc, rest, DEEPEST)?;
     Ok((Tail::Assigned(at, value), rest))
 }
 
@@ -88,7 +83,7 @@ fn value_of(alloc: Global, tokens: &[Token]) -> Taken<'_, Option<Boxed<Expr>>>
         return Ok((None, tokens));
     }
     let (_, rest) = mark(tokens, EQUAL)?;
-    let (value, rest) = exprs_of(alloc, rest, NESTINGS)?;
+    let (value, rest) = exprs_of(alloc, rest, DEEPEST)?;
     Ok((Some(Boxed::new(alloc, value)?), rest))
 }
 
@@ -99,7 +94,7 @@ pub fn annotated_of(alloc: Global, tokens: &[Token]) -> Taken<'_, Tail>
     ensures shorter { IfOk result (λ x. length x.1.now < length tokens.now) }
 {
     let (at, rest) = mark(tokens, COLON)?;
-    let (annotation, rest) = expr_of(alloc, rest, NESTINGS)?;
+    let (annotation, rest) = expr_of(alloc, rest, DEEPEST)?;
     let annotation = Boxed::new(alloc, annotation)?;
     let ((annotation, value), rest) = with(annotation, value_of(alloc, rest))?;
     Ok((Tail::Annotated(at, annotation, value), rest))
@@ -112,7 +107,7 @@ fn augmented_of(alloc: Global, tokens: &[Token]) -> Taken<'_, Tail>
     ensures shorter { IfOk result (λ x. length x.1.now < length tokens.now) }
 {
     let ((operator, at), rest) = augment_token(tokens)?;
-    let (value, rest) = exprs_of(alloc, rest, NESTINGS)?;
+    let (value, rest) = exprs_of(alloc, rest, DEEPEST)?;
     Ok((
         Tail::Augmented(operator, at, Boxed::new(alloc, value)?),
         rest,
@@ -192,7 +187,7 @@ fn begun_of(alloc: Global, tokens: &[Token]) -> Taken<'_, Stmt>
     ensures read { Gives (λ x. Read x.0 x.1.now) result ((begun (expr 100)).read tokens.now) }
     ensures shorter { IfOk result (λ x. length x.1.now < length tokens.now) }
 {
-    let (first, rest) = exprs_of(alloc, tokens, NESTINGS)?;
+    let (first, rest) = exprs_of(alloc, tokens, DEEPEST)?;
     let target = first.target();
     let ((first, tail), rest) = with(first, tail_of(alloc, rest, target))?;
     Ok((begun_with(first, tail), rest))
@@ -249,7 +244,7 @@ fn message_of(alloc: Global, tokens: &[Token]) -> Taken<'_, Option<Boxed<Expr>>>
         return Ok((None, tokens));
     }
     let (_, rest) = mark(tokens, COMMA)?;
-    let (message, rest) = expr_of(alloc, rest, NESTINGS)?;
+    let (message, rest) = expr_of(alloc, rest, DEEPEST)?;
     Ok((Some(Boxed::new(alloc, message)?), rest))
 }
 
@@ -259,7 +254,7 @@ fn assert_of(alloc: Global, tokens: &[Token]) -> Taken<'_, Stmt>
     ensures shorter { IfOk result (λ x. length x.1.now < length tokens.now) }
 {
     let (at, rest) = mark(tokens, ASSERT)?;
-    let (condition, rest) = expr_of(alloc, rest, NESTINGS)?;
+    let (condition, rest) = expr_of(alloc, rest, DEEPEST)?;
     let ((condition, message), rest) = with(condition, message_of(alloc, rest))?;
     Ok((word_stmt(at, StmtForm::Assert(condition, message)), rest))
 }
@@ -273,7 +268,7 @@ fn returned_of(alloc: Global, tokens: &[Token]) -> Taken<'_, Option<Expr>>
     if !stands_expr(tokens) {
         return Ok((None, tokens));
     }
-    let (value, rest) = exprs_of(alloc, tokens, NESTINGS)?;
+    let (value, rest) = exprs_of(alloc, tokens, DEEPEST)?;
     Ok((Some(value), rest))
 }
 

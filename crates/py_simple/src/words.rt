@@ -9,107 +9,14 @@ ghost use Rattle.py_ast.specs.Literals.{literal_codes, literal_first, literal_ar
 ghost use Rattle.py_ast.specs.Statements.{augment_codes, word_codes, return_first, simple_first};
 ghost use Rattle.py_ast.specs.Files.{member_first, file_simple_first, compound_first, function_first, definition_first};
 
-use py_expr::class::{begins_expr, class_of};
+use py_expr::class::{
+    AMPERSAND_EQUAL, ASSERT, AT, AT_EQUAL, BAR_EQUAL, BREAK, CARET_EQUAL, CLASS, CONTINUE, DEF,
+    DOUBLE_SLASH_EQUAL, DOUBLE_STAR_EQUAL, ELLIPSIS, FALSE, FOR, FROM, IF, IMPORT, LEFT_BRACE,
+    LEFT_BRACKET, LEFT_PAREN, LEFT_SHIFT_EQUAL, MINUS_EQUAL, NAME, NONE, NUMBER, PASS,
+    PERCENT_EQUAL, PLUS_EQUAL, RETURN, RIGHT_SHIFT_EQUAL, SLASH_EQUAL, STAR_EQUAL, SUPER, TEXT,
+    TRUE, WHILE, begins_expr, class_of,
+};
 use py_lexer::Token;
-
-/// A name other than `super`.
-pub const NAME: u8 = 1;
-
-const SUPER: u8 = 2;
-
-const NUMBER: u8 = 3;
-
-pub(crate) const TEXT: u8 = 4;
-
-/// The end of a line.
-pub const NEWLINE: u8 = 5;
-
-/// The beginning of an indented block.
-pub const INDENT: u8 = 6;
-
-/// The end of an indented block.
-pub const DEDENT: u8 = 7;
-
-const FALSE: u8 = 15;
-
-const NONE: u8 = 16;
-
-const TRUE: u8 = 17;
-
-pub(crate) const AS: u8 = 19;
-
-pub(crate) const ASSERT: u8 = 20;
-
-const BREAK: u8 = 23;
-
-/// `class`.
-pub const CLASS: u8 = 24;
-
-const CONTINUE: u8 = 25;
-
-/// `def`.
-pub const DEF: u8 = 26;
-
-/// `elif`.
-pub const ELIF: u8 = 28;
-
-/// `else`.
-pub const ELSE: u8 = 29;
-
-/// `for`.
-pub const FOR: u8 = 32;
-
-/// `from`.
-pub const FROM: u8 = 33;
-
-/// `if`.
-pub const IF: u8 = 35;
-
-/// `import`.
-pub const IMPORT: u8 = 36;
-
-/// `in`.
-pub const IN: u8 = 37;
-
-const PASS: u8 = 43;
-
-pub(crate) const RETURN: u8 = 45;
-
-/// `while`.
-pub const WHILE: u8 = 47;
-
-/// `@`.
-pub const AT: u8 = 57;
-
-pub(crate) const LEFT_PAREN: u8 = 71;
-
-pub(crate) const RIGHT_PAREN: u8 = 72;
-
-pub(crate) const LEFT_BRACKET: u8 = 73;
-
-pub(crate) const RIGHT_BRACKET: u8 = 74;
-
-pub(crate) const LEFT_BRACE: u8 = 75;
-
-pub(crate) const RIGHT_BRACE: u8 = 76;
-
-pub(crate) const COMMA: u8 = 77;
-
-/// `:`.
-pub const COLON: u8 = 78;
-
-pub(crate) const DOT: u8 = 79;
-
-/// `;`.
-pub const SEMICOLON: u8 = 80;
-
-/// `=`.
-pub const EQUAL: u8 = 81;
-
-pub(crate) const ARROW: u8 = 82;
-
-/// `...`.
-pub const ELLIPSIS: u8 = 96;
 
 /// Whether the class is that of a name, `super` among them.
 fn is_name(class: u8) -> bool
@@ -122,19 +29,19 @@ fn is_name(class: u8) -> bool
 pub(crate) fn is_augmented(class: u8) -> bool
     ensures { result ≡ has augment_codes class }
 {
-    class == 83
-        || class == 84
-        || class == 85
-        || class == 86
-        || class == 87
-        || class == 88
-        || class == 89
-        || class == 90
-        || class == 91
-        || class == 92
-        || class == 93
-        || class == 94
-        || class == 95
+    class == PLUS_EQUAL
+        || class == MINUS_EQUAL
+        || class == STAR_EQUAL
+        || class == SLASH_EQUAL
+        || class == DOUBLE_SLASH_EQUAL
+        || class == PERCENT_EQUAL
+        || class == AT_EQUAL
+        || class == AMPERSAND_EQUAL
+        || class == BAR_EQUAL
+        || class == CARET_EQUAL
+        || class == RIGHT_SHIFT_EQUAL
+        || class == LEFT_SHIFT_EQUAL
+        || class == DOUBLE_STAR_EQUAL
 }
 
 /// Whether the class is that of `pass`, or in a loop of `break` or `continue`.
