@@ -131,8 +131,11 @@ fn named_scope(
 ) -> Result<FunctionScope, Memory>
     ensures { IfOk result (λ s. s ≡ record { name = (out-Function function.now).name.name; at = (out-Function function.now).name.at; parameters = parameters; locals = locals; owned = owned }) }
 {
+    let scopes = (parameters, locals, owned);
+    let (scopes, name) = beside(scopes, function.name.name.copy())?;
+    let (parameters, locals, owned) = scopes;
     Ok(FunctionScope {
-        name: function.name.name.copy()?,
+        name,
         at: function.name.at,
         parameters,
         locals,
@@ -234,7 +237,7 @@ fn read_functions(
 }
 
 /// The methods among the members of a class.
-pub fn methods_of(alloc: Global, members: &[Binding]) -> Result<Scope, Memory>
+fn methods_of(alloc: Global, members: &[Binding]) -> Result<Scope, Memory>
     ensures { IfOk result (λ s. s ≡ filter is_method members.now) }
 {
     let mut found = Items::new(alloc);
@@ -247,7 +250,7 @@ pub fn methods_of(alloc: Global, members: &[Binding]) -> Result<Scope, Memory>
 }
 
 /// The scope of a class, without its methods.
-fn class_scope(alloc: Global, class: &Class) -> Result<ClassScope, Memory>
+fn scope_without_methods(alloc: Global, class: &Class) -> Result<ClassScope, Memory>
     ensures { IfOk result (λ s. s ≡ record { name = (out-Class class.now).name.name; at = (out-Class class.now).name.at; members = members class.now; methods = [] }) }
 {
     let members = scope_of(alloc, class.body.as_slice())?;
@@ -282,7 +285,7 @@ fn read_class(
     ensures scope { IfOk result (λ r. r.0 ≡ class_scope class.now) }
     ensures fault { IfOk result (λ r. r.1 ≡ fold sooner known (class_faults (λ n. is_variable_of n globals.now) class.now)) }
 {
-    let (known, scope) = beside(known, class_scope(alloc, class))?;
+    let (known, scope) = beside(known, scope_without_methods(alloc, class))?;
     let known = all_methods_fault(alloc, scope.members.bindings(), known);
     let (mut scope, known) = beside(scope, known)?;
     let fault = read_functions(
