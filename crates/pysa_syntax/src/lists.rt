@@ -66,8 +66,6 @@ pub fn present_after<T: Drop>(
 ) -> Result<Items<T>, AllocError>
     ensures { IfOk result (λ r. r ≡ first ∷ present others) }
 {
-    let mut out = Items::new(alloc);
-    out.push(first)?;
-    out.append(present(alloc, others)?)?;
-    Ok(out)
+    let others = present(alloc, others)?;
+    prepended(alloc, first, others)
 }
