@@ -4,14 +4,14 @@ ghost use Rattle.std.specs.Prelude.{◌≡◌, ◌||◌, [], true, filter, map, 
 ghost use Rattle.std.specs.List.{flat_map, fold, list_any};
 ghost use Rattle.rv_names.specs.Keys.{bytes_equal};
 ghost use Rattle.py_ast.specs.Bindings.{parameter};
-ghost use Rattle.py_ast.specs.ScopeFaults.{sooner, bound_twice, variable_calls, locals, is_method, functions, classes, used_in_body, function_faults, class_faults, scope_fault, HasNoScopeFault};
+ghost use Rattle.py_ast.specs.ScopeFaults.{sooner, bound_twice, variable_calls, locals, is_method, globals, functions, classes, used_in_body, function_faults, class_faults, scope_fault, HasNoScopeFault};
 ghost use Rattle.py_scopes.specs.Names.{is_named, is_variable_of};
 ghost use Rattle.py_scopes.specs.Scopes.{IsFaultOf};
 
 use crate::error::ScopeError;
 use crate::faults::{bound_twice, methods_are_apart, variable_calls};
 use crate::module::{
-    bindings_of, calls_of, locals_of, methods_of, module_fault, parameters_of, scope_of,
+    all_methods_fault, bindings_of, calls_of, locals_of, module_fault, parameters_of, scope_of,
 };
 use crate::scope::{FEW, Scope};
 use py_ast::{Binding, Class, Function, Module, Parameter, ScopeFault, Stmt, StmtForm, Use};
@@ -133,20 +133,6 @@ fn functions_fault(
     Ok(fault)
 }
 
-/// The sooner of what is known and of the methods of one name, by a list of their bindings.
-#[cold]
-#[inline(never)]
-fn all_methods_fault(
-    alloc: Global,
-    members: &[Binding],
-    known: Option<ScopeFault>,
-) -> Result<Option<ScopeFault>, Memory>
-    ensures { IfOk result (λ f. f ≡ fold sooner known (bound_twice (filter is_method members.now))) }
-{
-    let methods = methods_of(alloc, members)?;
-    bound_twice(&methods, known)
-}
-
 /// The sooner of what is known and of the methods of one name. Where few members have none, no list of the methods is made.
 fn methods_fault(
     alloc: Global,
@@ -195,15 +181,23 @@ fn classes_fault(
     Ok(fault)
 }
 
+/// The fault of least place, by the module's own names.
+fn fault_by(alloc: Global, tree: &Module, variables: &Scope) -> Result<Option<ScopeFault>, Memory>
+    requires { variables.now ≡ globals tree.now }
+    ensures { IfOk result (λ f. f ≡ scope_fault tree.now) }
+{
+    let stmts = tree.body.as_slice();
+    let known = module_fault(alloc, tree, variables)?;
+    let known = functions_fault(alloc, stmts, variables, known)?;
+    classes_fault(alloc, stmts, variables, known)
+}
+
 /// The fault of least place.
 fn first_fault(alloc: Global, tree: &Module) -> Result<Option<ScopeFault>, Memory>
     ensures { IfOk result (λ f. f ≡ scope_fault tree.now) }
 {
-    let stmts = tree.body.as_slice();
-    let globals = scope_of(alloc, stmts)?;
-    let known = module_fault(alloc, tree, &globals)?;
-    let known = functions_fault(alloc, stmts, &globals, known)?;
-    classes_fault(alloc, stmts, &globals, known)
+    let variables = scope_of(alloc, tree.body.as_slice())?;
+    fault_by(alloc, tree, &variables)
 }
 
 /// The fault of least place among the names of a module, as `scopes` answers it, without the scopes. It costs much less than

@@ -5,10 +5,12 @@
 //! * `kinds`: what kinds of bindings say;
 //! * `facts`, `scope`: the bindings of one scope, by name; `usage`: the uses of one body, by name;
 //! * `faults`: names that are bound again, and calls of variables; `owned`: the names that a function owns;
+//! * `beside`: values that stay while a call may fail;
 //! * `layers`: the scopes of a module, one in another; `module`: how they are read, and `error` why there are none;
 //! * `first_fault`: the fault without the scopes.
 #![tactic(auto)]
 
+mod beside;
 mod bindings;
 mod error;
 mod facts;

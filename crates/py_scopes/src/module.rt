@@ -1,17 +1,20 @@
 //! The scopes of a module, and its fault.
 
-ghost use Rattle.std.specs.Prelude.{◌≡◌, ◌++◌, [], ◌||◌, cond, None, fold, map, filter, IfOk, IfErr, OnOk};
+ghost use Rattle.std.specs.Prelude.{◌≡◌, ◌++◌, [], ◌||◌, cond, false, None, fold, map, filter, IfOk, IfErr, OnOk};
 ghost use Rattle.std.specs.List.{flat_map};
 ghost use Rattle.py_ast.specs.Bindings.{bindings, parameter};
 ghost use Rattle.py_ast.specs.Kinds.{is_init};
 ghost use Rattle.py_ast.specs.Owned as spec;
-ghost use Rattle.py_ast.specs.ScopeFaults.{sooner, bound_twice, variable_calls, locals, is_method, globals, functions, classes, used_in_body, is_global_variable, function_faults, class_faults, scope_fault, HasNoScopeFault};
+ghost use Rattle.py_ast.specs.ScopeFaults.{sooner, bound_twice, variable_calls, parameters, locals, members, is_method, globals, functions, classes, used_in_body, is_global_variable, function_faults, class_faults, scope_fault, HasNoScopeFault};
 ghost use Rattle.py_ast.specs.Uses.{used_in_all};
+ghost use Rattle.py_ast.specs.declared.statement.Class.{out-Class};
+ghost use Rattle.py_ast.specs.declared.statement.Function.{out-Function};
 ghost use Rattle.py_scopes.specs.Listed.{is_wanted};
 ghost use Rattle.py_scopes.specs.Names.{is_named, is_variable_of};
 ghost use Rattle.py_scopes.specs.Scopes.{function_scope, class_scope, scopes_of, IsFaultOf};
 ghost use Rattle.py_scopes.specs.declared.uses.Wanted.TheVariants.{Calls};
 
+use crate::beside::beside;
 use crate::error::ScopeError;
 use crate::faults::{bound_twice, variable_calls};
 use crate::kinds::is_function;
@@ -110,6 +113,36 @@ fn is_init(name: &Name) -> bool
     name.as_str() == "__init__"
 }
 
+/// The scope of the parameters of a function alone, and that of all its own names.
+fn bound_of(alloc: Global, function: &Function) -> Result<(Scope, Scope), Memory>
+    ensures parameters { IfOk result (λ x. x.0 ≡ parameters function.now) }
+    ensures locals { IfOk result (λ x. x.1 ≡ locals function.now) }
+{
+    let parameters = parameters_of(alloc, function.parameters.as_slice())?;
+    beside(parameters, locals_of(alloc, function))
+}
+
+/// These scopes, with the name of the function.
+fn named_scope(
+    function: &Function,
+    parameters: Scope,
+    locals: Scope,
+    owned: Scope,
+) -> Result<FunctionScope, Memory>
+    ensures { IfOk result (λ s. s ≡ record { name = (out-Function function.now).name.name; at = (out-Function function.now).name.at; parameters = parameters; locals = locals; owned = owned }) }
+{
+    let scopes = (parameters, locals, owned);
+    let (scopes, name) = beside(scopes, function.name.name.copy())?;
+    let (parameters, locals, owned) = scopes;
+    Ok(FunctionScope {
+        name,
+        at: function.name.at,
+        parameters,
+        locals,
+        owned,
+    })
+}
+
 /// The scope of a function, which is a method or not, by what its body uses.
 fn function_scope(
     alloc: Global,
@@ -120,17 +153,10 @@ fn function_scope(
     requires { usage.now ≡ used_in_body function.now }
     ensures { IfOk result (λ s. s ≡ function_scope method function.now) }
 {
-    let parameters = parameters_of(alloc, function.parameters.as_slice())?;
-    let locals = locals_of(alloc, function)?;
+    let (parameters, locals) = bound_of(alloc, function)?;
     let init = method && is_init(&function.name.name);
     let owned = owned_of(alloc, init, &parameters, &locals, usage)?;
-    Ok(FunctionScope {
-        name: function.name.name.copy()?,
-        at: function.name.at,
-        parameters,
-        locals,
-        owned,
-    })
+    named_scope(function, parameters, locals, owned)
 }
 
 /// The sooner of what is known, of names that are bound again, and of calls of variables in a body that uses these.
@@ -148,6 +174,30 @@ fn body_fault(
     Ok(variable_calls(uses, locals, globals, known))
 }
 
+/// The scope of a function, and the sooner of what is known and of its faults, by what its body uses.
+fn read_used(
+    alloc: Global,
+    method: bool,
+    function: &Function,
+    usage: &Usage,
+    globals: &Scope,
+    known: Option<ScopeFault>,
+) -> Result<(FunctionScope, Option<ScopeFault>), Memory>
+    requires { usage.now ≡ used_in_body function.now }
+    ensures scope { IfOk result (λ r. r.0 ≡ function_scope method function.now) }
+    ensures fault { IfOk result (λ r. r.1 ≡ fold sooner known (function_faults (λ n. is_variable_of n globals.now) function.now)) }
+{
+    let (known, scope) = beside(known, function_scope(alloc, method, function, usage))?;
+    let fault = body_fault(
+        &scope.parameters,
+        &scope.locals,
+        usage.uses(),
+        globals,
+        known,
+    );
+    beside(scope, fault)
+}
+
 fn read_function(
     alloc: Global,
     method: bool,
@@ -158,11 +208,8 @@ fn read_function(
     ensures scope { IfOk result (λ r. r.0 ≡ function_scope method function.now) }
     ensures fault { IfOk result (λ r. r.1 ≡ fold sooner known (function_faults (λ n. is_variable_of n globals.now) function.now)) }
 {
-    let usage = usage_of(alloc, function.body.as_slice())?;
-    let scope = function_scope(alloc, method, function, &usage)?;
-    let uses = usage.uses();
-    let fault = body_fault(&scope.parameters, &scope.locals, uses, globals, known)?;
-    Ok((scope, fault))
+    let (known, usage) = beside(known, usage_of(alloc, function.body.as_slice()))?;
+    read_used(alloc, method, function, &usage, globals, known)
 }
 
 /// Adds the scopes of the functions that stand directly among the statements, and answers the sooner of what is known and of
@@ -190,7 +237,7 @@ fn read_functions(
 }
 
 /// The methods among the members of a class.
-pub fn methods_of(alloc: Global, members: &[Binding]) -> Result<Scope, Memory>
+fn methods_of(alloc: Global, members: &[Binding]) -> Result<Scope, Memory>
     ensures { IfOk result (λ s. s ≡ filter is_method members.now) }
 {
     let mut found = Items::new(alloc);
@@ -202,6 +249,33 @@ pub fn methods_of(alloc: Global, members: &[Binding]) -> Result<Scope, Memory>
     Scope::new(alloc, found)
 }
 
+/// The scope of a class, without its methods.
+fn scope_without_methods(alloc: Global, class: &Class) -> Result<ClassScope, Memory>
+    ensures { IfOk result (λ s. s ≡ record { name = (out-Class class.now).name.name; at = (out-Class class.now).name.at; members = members class.now; methods = [] }) }
+{
+    let members = scope_of(alloc, class.body.as_slice())?;
+    let (members, name) = beside(members, class.name.name.copy())?;
+    Ok(ClassScope {
+        name,
+        at: class.name.at,
+        members,
+        methods: Items::new(alloc),
+    })
+}
+
+/// The sooner of what is known and of the methods of one name among the members, by a list of their bindings.
+#[inline(never)]
+pub fn all_methods_fault(
+    alloc: Global,
+    members: &[Binding],
+    known: Option<ScopeFault>,
+) -> Result<Option<ScopeFault>, Memory>
+    ensures { IfOk result (λ f. f ≡ fold sooner known (bound_twice (filter is_method members.now))) }
+{
+    let (known, methods) = beside(known, methods_of(alloc, members))?;
+    bound_twice(&methods, known)
+}
+
 fn read_class(
     alloc: Global,
     class: &Class,
@@ -211,24 +285,18 @@ fn read_class(
     ensures scope { IfOk result (λ r. r.0 ≡ class_scope class.now) }
     ensures fault { IfOk result (λ r. r.1 ≡ fold sooner known (class_faults (λ n. is_variable_of n globals.now) class.now)) }
 {
-    let members = scope_of(alloc, class.body.as_slice())?;
-    let known = bound_twice(&methods_of(alloc, members.bindings())?, known)?;
-    let mut methods = Items::new(alloc);
+    let (known, scope) = beside(known, scope_without_methods(alloc, class))?;
+    let known = all_methods_fault(alloc, scope.members.bindings(), known);
+    let (mut scope, known) = beside(scope, known)?;
     let fault = read_functions(
         alloc,
         true,
         class.body.as_slice(),
         globals,
         known,
-        &mut methods,
-    )?;
-    let scope = ClassScope {
-        name: class.name.name.copy()?,
-        at: class.name.at,
-        members,
-        methods,
-    };
-    Ok((scope, fault))
+        &mut scope.methods,
+    );
+    beside(scope, fault)
 }
 
 /// Adds the scopes of the classes that stand directly among the statements, and answers the sooner of what is known and of
@@ -271,24 +339,46 @@ pub fn module_fault(
     body_fault(variables, &locals, calls.as_slice(), variables, None)
 }
 
+/// Adds the scopes of the module's functions and classes, and answers its fault of least place.
+fn read_layers(
+    alloc: Global,
+    tree: &Module,
+    variables: &Scope,
+    all_functions: &mut Items<FunctionScope>,
+    all_classes: &mut Items<ClassScope>,
+) -> Result<Option<ScopeFault>, Memory>
+    requires { variables.now ≡ globals tree.now }
+    ensures functions { OnOk result (all_functions.new ≡ all_functions.old ++ map (function_scope false) (functions tree.now.body)) }
+    ensures classes { OnOk result (all_classes.new ≡ all_classes.old ++ map class_scope (classes tree.now.body)) }
+    ensures fault { IfOk result (λ f. f ≡ scope_fault tree.now) }
+{
+    let stmts = tree.body.as_slice();
+    let known = module_fault(alloc, tree, variables)?;
+    let known = read_functions(alloc, false, stmts, variables, known, all_functions)?;
+    read_classes(alloc, stmts, variables, known, all_classes)
+}
+
 /// The scopes of the module, and its fault of least place.
 fn read(alloc: Global, tree: &Module) -> Result<(Scopes, Option<ScopeFault>), Memory>
     ensures scopes { IfOk result (λ r. r.0 ≡ scopes_of tree.now) }
     ensures fault { IfOk result (λ r. r.1 ≡ scope_fault tree.now) }
 {
-    let stmts = tree.body.as_slice();
-    let globals = scope_of(alloc, stmts)?;
-    let known = module_fault(alloc, tree, &globals)?;
+    let variables = scope_of(alloc, tree.body.as_slice())?;
     let mut all_functions = Items::new(alloc);
-    let known = read_functions(alloc, false, stmts, &globals, known, &mut all_functions)?;
     let mut all_classes = Items::new(alloc);
-    let fault = read_classes(alloc, stmts, &globals, known, &mut all_classes)?;
+    let fault = read_layers(
+        alloc,
+        tree,
+        &variables,
+        &mut all_functions,
+        &mut all_classes,
+    );
     let scopes = Scopes {
-        globals,
+        globals: variables,
         functions: all_functions,
         classes: all_classes,
     };
-    Ok((scopes, fault))
+    beside(scopes, fault)
 }
 
 /// The scopes of a module, or the fault of least place among its names (Language Reference, section 4.2).

@@ -1,6 +1,6 @@
 //! Lists that change hands, item by item.
 
-ghost use Rattle.std.specs.Prelude.{◌≡◌, ◌++◌, IfOk, reverse};
+ghost use Rattle.std.specs.Prelude.{◌≡◌, ◌++◌, ◌∷◌, IfOk, reverse};
 ghost use Rattle.pysa_syntax.specs.Grammar.{joined, present};
 
 use sqlite_items::Items;
@@ -46,4 +46,26 @@ pub fn present<T: Drop>(alloc: Global, items: Items<Option<T>>) -> Result<Items<
         }
     }
     Ok(out)
+}
+
+/// The first item, and then all others. Constant in the others.
+pub fn prepended<T: Drop>(alloc: Global, first: T, others: Items<T>) -> Result<Items<T>, AllocError>
+    ensures { IfOk result (λ r. r ≡ first ∷ others) }
+{
+    let mut out = Items::new(alloc);
+    out.push(first)?;
+    out.append(others)?;
+    Ok(out)
+}
+
+/// The first item, and then those of the others that are there. Linear in the others.
+pub fn present_after<T: Drop>(
+    alloc: Global,
+    first: T,
+    others: Items<Option<T>>,
+) -> Result<Items<T>, AllocError>
+    ensures { IfOk result (λ r. r ≡ first ∷ present others) }
+{
+    let others = present(alloc, others)?;
+    prepended(alloc, first, others)
 }

@@ -9,7 +9,7 @@ ghost use Rattle.pysa_syntax.specs.Symbols.{class, only, sides};
 ghost use Rattle.pysa_syntax.specs.Grammar.{before, mark_by, marks_by, kind_list, side, sided, through, one, others, several, mark_list, optional};
 
 use crate::decl::DeclMark;
-use crate::lists::joined;
+use crate::lists::{joined, prepended};
 use crate::symbol::{Symbol, is, is_side, starts_with, symbol_of};
 use crate::words::{names_by, sign};
 use phrases::{Fault, Stop, many};
@@ -169,23 +169,30 @@ fn others(
 {
     let (second, rest) = further_one(alloc, tokens)?;
     let (further, rest) = further_ones(alloc, rest)?;
-    let mut others = Items::new(alloc);
-    others.push(second)?;
-    others.append(further)?;
-    Ok((others, rest))
+    Ok((prepended(alloc, second, further)?, rest))
+}
+
+/// A left bracket and the marks behind it.
+#[tactic(auto, unfolding(crate::specs::Grammar::before))]
+fn opened(alloc: Global, tokens: &[Token]) -> Result<(Items<DeclMark>, &[Token]), Stop<'_, Token>>
+    ensures read { Gives (λ x. Read x.0 x.1.now) result ((before Symbol.LeftBracket one).read tokens.now) }
+    ensures shorter { IfOk result (λ x. length x.1.now < length tokens.now) }
+{
+    let (_, rest) = sign(tokens, Symbol::LeftBracket)?;
+    one(alloc, rest)
 }
 
 /// The marks of a list in brackets.
-#[tactic(auto, unfolding(crate::specs::Grammar::several, crate::specs::Grammar::before, crate::specs::Grammar::behind))]
+#[tactic(auto, unfolding(crate::specs::Grammar::several, crate::specs::Grammar::behind))]
 fn several(alloc: Global, tokens: &[Token]) -> Result<(Items<DeclMark>, &[Token]), Stop<'_, Token>>
     ensures read { Gives (λ x. Read x.0 x.1.now) result (several.read tokens.now) }
     ensures shorter { IfOk result (λ x. length x.1.now < length tokens.now) }
 {
-    let (_, rest) = sign(tokens, Symbol::LeftBracket)?;
-    let (first, rest) = one(alloc, rest)?;
+    let (first, rest) = opened(alloc, tokens)?;
     let (others, rest) = others(alloc, rest)?;
+    let marks = joined(alloc, first, others)?;
     let (_, rest) = sign(rest, Symbol::RightBracket)?;
-    Ok((joined(alloc, first, others)?, rest))
+    Ok((marks, rest))
 }
 
 /// Marks, of one side or in a `Union`.

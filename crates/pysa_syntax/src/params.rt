@@ -8,7 +8,7 @@ ghost use Rattle.pysa_syntax.specs.Symbols.{class, only, param_first};
 ghost use Rattle.pysa_syntax.specs.Grammar.{marked, default, named, bare, plain, behind_star, star, keywords, slash, starred, param, further_param, on_behind, further_params, param_list, parameters};
 
 use crate::decl::{DeclMark, DeclParam, ParamKind};
-use crate::lists::present;
+use crate::lists::present_after;
 use crate::marks::optional_marks;
 use crate::symbol::{Symbol, begins_param, is, starts_with, starts_with_name};
 use crate::words::{identifier, sign};
@@ -226,10 +226,7 @@ fn param_list(
     if starts_with_param(tokens) {
         let (first, rest) = param(alloc, tokens)?;
         let (further, rest) = further_params(alloc, rest)?;
-        let mut params = Items::new(alloc);
-        params.push(first)?;
-        params.append(present(alloc, further)?)?;
-        Ok((params, rest))
+        Ok((present_after(alloc, first, further)?, rest))
     } else {
         Ok((Items::new(alloc), tokens))
     }

@@ -9,6 +9,7 @@ ghost use Rattle.phrases.specs.Loops.{Gives};
 ghost use Rattle.pysa_syntax.specs.Symbols.{class, only, names, text_in};
 ghost use Rattle.pysa_syntax.specs.Grammar.{one_of, sign, identifier, before, names_by, texts, qname};
 
+use crate::lists::prepended;
 use crate::symbol::{Symbol, is, is_name};
 use phrases::{Fault, Stop, many};
 use py_lexer::{Token, Value};
@@ -112,10 +113,7 @@ pub fn names_by(
 {
     let (first, rest) = identifier(tokens)?;
     let (others, rest) = further_names(alloc, rest, separator)?;
-    let mut names = Items::new(alloc);
-    names.push(first)?;
-    names.append(others)?;
-    Ok((names, rest))
+    Ok((prepended(alloc, first, others)?, rest))
 }
 
 /// The texts of names. A counter each.
