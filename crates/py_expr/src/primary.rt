@@ -155,7 +155,7 @@ where
     F: Fn(&[Token]) -> Taken<'_, Expr>,
     requires can_call { F.IsAlwaysCallable inner.now }
     requires reads { ReadsSome (λ ts r. F.post inner.now ts r) (nested room Whole).read }
-    ensures read { Gives (λ x. Read x.0 x.1.now) result ((ended (exprs (nested room Whole)) 74).read tokens.now) }
+    ensures read { Gives (λ x. Read x.0 x.1.now) result ((ended (exprs (nested room Whole)) RIGHT_BRACKET).read tokens.now) }
     ensures shorter { IfOk result (λ x. length x.1.now < length tokens.now) }
 {
     let (index, rest) = exprs_by(alloc, tokens, room, inner)?;
