@@ -8,7 +8,8 @@ use Rattle.py_lexer.specs.declared.token.Token.{Token}
 use Rattle.py_ast.specs.declared.statement.Stmt.{Stmt}
 use Rattle.py_ast.specs.Files.{file}
 use Rattle.py_ast.proofs.FileLaws.{file-laws}
-use Rattle.py_parser.specs.Faults.{deepest, Ends, SyntaxStop}
+use Rattle.py_expr.specs.Judged.{deepest}
+use Rattle.py_parser.specs.Faults.{Ends, SyntaxStop}
 
 -- of two fronts of one list, one is the other, or goes on with the next token behind it
 data Parted (x y u v : List Token) : Type 0 where

@@ -11,7 +11,8 @@ use Rattle.py_ast.specs.declared.statement.Module.{Module}
 use Rattle.py_ast.proofs.FileLaws.{one-module}
 use Rattle.py_parser.specs.declared.reading.GrammarError.{GrammarError}
 use Rattle.py_parser.specs.declared.reading.GrammarError.TheVariants.{Syntax, Unsupported, TooDeep, Memory}
-use Rattle.py_parser.specs.Faults.{deepest, IsModule, EndsWith, StopPlace, StandsAt, Tells, IsSyntax, IsUnsupported, IsTooDeep}
+use Rattle.py_expr.specs.Judged.{deepest}
+use Rattle.py_parser.specs.Faults.{IsModule, EndsWith, StopPlace, StandsAt, Tells, IsSyntax, IsUnsupported, IsTooDeep}
 use Rattle.py_judgement.specs.Answers.{Answers}
 use Rattle.py_judgement.proofs.Fronts.{one-front, not-spelled, same-last, deep-read, not-deep-spelled, not-deep-stop}
 

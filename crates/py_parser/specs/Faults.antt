@@ -14,12 +14,9 @@ use Rattle.later_forms.specs.Later.{told_on_line, told_before}
 use Rattle.py_ast.specs.Files.{file, module_of}
 use Rattle.py_ast.specs.declared.statement.Module.{Module}
 use Rattle.py_ast.specs.declared.statement.Stmt.{Stmt}
+use Rattle.py_expr.specs.Judged.{deepest}
 use Rattle.py_parser.specs.declared.reading.GrammarError.{GrammarError}
 use Rattle.py_parser.specs.declared.reading.GrammarError.TheVariants as errors
-
--- so many nestings may be open in an expression, and so many blocks, one in another
-abbrev pub deepest : ℕ
-deepest = 100
 
 -- the tokens spell the module
 abbrev pub IsModule : List Token → Module → Type 0

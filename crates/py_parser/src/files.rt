@@ -38,8 +38,8 @@ fn statement_into<'a, S>(
 where
     S: Fn(Suite, &[Token]) -> Taken<'_, Items<Stmt>>,
     requires callable { S.IsAlwaysCallable suite }
-    requires reads { ReadsSuites (λ s ts r. S.post suite s ts r) DEEPEST }
-    ensures read { Gives (λ x. Read x.0.items x.1.now) result (with_front before.items ((file_statement (expr 100) (literal 100) DEEPEST (suites 100 100)).read tokens.now)) }
+    requires reads { ReadsSuites (λ s ts r. S.post suite s ts r) 100 }
+    ensures read { Gives (λ x. Read x.0.items x.1.now) result (with_front before.items ((file_statement (expr 100) (literal 100) 100 (suites 100 100)).read tokens.now)) }
     ensures shorter { IfOk result (λ x. length x.1.now < length tokens.now) }
 {
     if stands_definition(tokens) {
@@ -54,7 +54,7 @@ where
 /// The statements, and then an empty line or more of them.
 #[tactic(auto, using(phrases::proofs::Sets::append_none), unfolding(py_ast::specs::Files::file_item))]
 fn item_into(alloc: Global, tokens: &[Token], before: Vec<Stmt>) -> Taken<'_, Vec<Stmt>>
-    ensures read { Gives (λ x. Read x.0.items x.1.now) result (with_front before.items ((file_item (expr 100) (literal 100) DEEPEST (suites 100 100)).read tokens.now)) }
+    ensures read { Gives (λ x. Read x.0.items x.1.now) result (with_front before.items ((file_item (expr 100) (literal 100) 100 (suites 100 100)).read tokens.now)) }
     ensures shorter { IfOk result (λ x. length x.1.now < length tokens.now) }
 {
     if stands(tokens, NEWLINE) {
@@ -95,7 +95,7 @@ fn lines_into(alloc: Global, tokens: &[Token], before: Vec<Stmt>) -> Taken<'_, V
             ensures { result ≡ has file_first (class token.now) }
         { begins_item(class_of(token)) },
         |rest: &[Token], all: Vec<Stmt>|
-            ensures read { Gives (λ x. Read x.0.items x.1.now) result (with_front all.items ((file_item (expr 100) (literal 100) DEEPEST (suites 100 100)).read rest.now)) }
+            ensures read { Gives (λ x. Read x.0.items x.1.now) result (with_front all.items ((file_item (expr 100) (literal 100) 100 (suites 100 100)).read rest.now)) }
             ensures shorter { IfOk result (λ x. length x.1.now < length rest.now) }
         { item_into(alloc, rest, all) },
     )

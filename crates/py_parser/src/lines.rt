@@ -7,6 +7,7 @@ ghost use Rattle.phrases.specs.Phrases.{token, sequence, either};
 ghost use Rattle.phrases.specs.Series.{series};
 ghost use Rattle.phrases.specs.Loops.{Gives, with_front};
 ghost use Rattle.py_ast.specs.Kinds.{class, mark_of};
+ghost use Rattle.py_ast.specs.Tokens.{name_of};
 ghost use Rattle.py_ast.specs.Grammar.{mapped, goes_past, expr};
 ghost use Rattle.py_ast.specs.Statements.{optional, assigned, annotated, further, line};
 ghost use Rattle.py_ast.specs.Files.{member_of, name_expr, ellipsis_of, member_simple, file_simple};
@@ -16,6 +17,7 @@ use crate::lists::appended;
 use phrases::series;
 use py_ast::{Constant, Expr, Form, NameAt, Stmt, Tail, given_after};
 use py_expr::class::{DEDENT, ELLIPSIS, EQUAL, FROM, IMPORT, NAME, NEWLINE, SEMICOLON, class_of};
+use py_expr::steps::with;
 use py_expr::token::{Taken, make_leaf, mark, stands};
 use py_lexer::Token;
 use py_literals::place::Pos;
@@ -72,6 +74,16 @@ fn ellipsis_of(at: Pos) -> Stmt
     )
 }
 
+/// A name and what follows it, as a statement of a class.
+fn named_member_of(alloc: Global, tokens: &[Token]) -> Taken<'_, Stmt>
+    ensures read { Gives (λ x. Read x.0 x.1.now) result ((sequence (token (name_of (NAME ∷ []))) (λ n. either class (EQUAL ∷ []) (assigned (expr 100)) (annotated (expr 100))) member_of).read tokens.now) }
+    ensures shorter { IfOk result (λ x. length x.1.now < length tokens.now) }
+{
+    let (name, rest) = plain_name_of(tokens)?;
+    let ((name, tail), rest) = with(name, member_tail_of(alloc, rest))?;
+    Ok((member_of(name, tail), rest))
+}
+
 /// A simple statement of a class.
 #[tactic(auto, unfolding(py_ast::specs::Files::member_simple, py_ast::specs::Grammar::mapped))]
 fn member_simple_of(alloc: Global, tokens: &[Token]) -> Taken<'_, Stmt>
@@ -79,9 +91,7 @@ fn member_simple_of(alloc: Global, tokens: &[Token]) -> Taken<'_, Stmt>
     ensures shorter { IfOk result (λ x. length x.1.now < length tokens.now) }
 {
     if stands(tokens, NAME) {
-        let (name, rest) = plain_name_of(tokens)?;
-        let (tail, rest) = member_tail_of(alloc, rest)?;
-        return Ok((member_of(name, tail), rest));
+        return named_member_of(alloc, tokens);
     }
     if stands_word(tokens, false) {
         return word_token(tokens, false);

@@ -3,7 +3,8 @@
 ghost use Rattle.std.specs.Prelude.{◌≡◌, List, [], ◌∷◌};
 ghost use Rattle.phrases.specs.Verdict.{TooDeepAt};
 ghost use Rattle.py_ast.specs.Files.{file};
-ghost use Rattle.py_parser.specs.Faults.{SyntaxStop, EndsWith, StopPlace, ReadsTo, Refused, Judged, deepest};
+ghost use Rattle.py_expr.specs.Judged.{deepest};
+ghost use Rattle.py_parser.specs.Faults.{SyntaxStop, EndsWith, StopPlace, ReadsTo, Refused, Judged};
 
 use crate::files::statements_of;
 use later_forms::{told_before, told_on_line};
