@@ -23,6 +23,7 @@ use py_lexer::Token;
 use py_literals::place::Pos;
 use py_simple::names::loop_names_of;
 use py_simple::simple::{NESTINGS, word_stmt};
+use py_simple::steps::{before, with};
 use py_simple::words::{COLON, ELIF, ELSE, FOR, IF, IN, WHILE};
 use sqlite_items::Items;
 use std::alloc::Global;
@@ -82,7 +83,7 @@ where
 {
     let (at, rest) = mark(tokens, word)?;
     let (condition, rest) = expr_of(alloc, rest, NESTINGS)?;
-    let (body, rest) = block_of(rest, room, kind, suite)?;
+    let ((condition, body), rest) = with(condition, block_of(rest, room, kind, suite))?;
     Ok((
         Branch {
             at,
@@ -163,8 +164,11 @@ where
     ensures shorter { IfOk result (λ x. length x.1.now < length tokens.now) }
 {
     let (first, rest) = branch_of(alloc, tokens, IF, room, kind, suite)?;
-    let (others, rest) = further_branches_of(alloc, rest, room, kind, suite)?;
-    let (otherwise, rest) = else_of(alloc, rest, room, kind, suite)?;
+    let (branches, rest) = with(first, further_branches_of(alloc, rest, room, kind, suite))?;
+    let (((first, others), otherwise), rest) = with(
+        branches,
+        else_of(alloc, rest, room, kind, suite),
+    )?;
     let at = first.at;
     Ok((word_stmt(at, StmtForm::If(first, others, otherwise)), rest))
 }
@@ -187,7 +191,7 @@ where
 {
     let (at, rest) = mark(tokens, WHILE)?;
     let (condition, rest) = expr_of(alloc, rest, NESTINGS)?;
-    let (body, rest) = block_of(rest, room, kind, suite)?;
+    let ((condition, body), rest) = with(condition, block_of(rest, room, kind, suite))?;
     Ok((word_stmt(at, StmtForm::While(condition, body)), rest))
 }
 
@@ -219,9 +223,9 @@ where
 {
     let (node, rest) = mark(tokens, FOR)?;
     let (names, rest) = loop_names_of(alloc, rest)?;
-    let (_, rest) = mark(rest, IN)?;
-    let (iterated, rest) = exprs_of(alloc, rest, NESTINGS)?;
-    let (body, rest) = block_of(rest, room, kind, suite)?;
+    let (names, rest) = before(names, rest, IN)?;
+    let (header, rest) = with(names, exprs_of(alloc, rest, NESTINGS))?;
+    let (((names, iterated), body), rest) = with(header, block_of(rest, room, kind, suite))?;
     let anchor = names_anchor(node, names.as_slice());
     Ok((
         Stmt {

@@ -19,6 +19,7 @@ use py_simple::decorators::decorators_of;
 use py_simple::imports::name_of;
 use py_simple::names::{base_of, signature_of};
 use py_simple::simple::word_stmt;
+use py_simple::steps::with;
 use py_simple::words::{AT, CLASS, DEF};
 use sqlite_items::Items;
 use std::alloc::Global;
@@ -41,8 +42,11 @@ where
 {
     let (at, rest) = mark(tokens, DEF)?;
     let (name, rest) = name_of(rest)?;
-    let ((parameters, returns), rest) = signature_of(alloc, rest)?;
-    let (body, rest) = block_of(rest, room, Suite::Body(true, false), suite)?;
+    let (header, rest) = with(name, signature_of(alloc, rest))?;
+    let (((name, (parameters, returns)), body), rest) = with(
+        header,
+        block_of(rest, room, Suite::Body(true, false), suite),
+    )?;
     let function = Function {
         decorators,
         name,
@@ -71,8 +75,8 @@ where
 {
     let (at, rest) = mark(tokens, CLASS)?;
     let (name, rest) = name_of(rest)?;
-    let (base, rest) = base_of(alloc, rest)?;
-    let (body, rest) = block_of(rest, room, Suite::Members, suite)?;
+    let (header, rest) = with(name, base_of(alloc, rest))?;
+    let (((name, base), body), rest) = with(header, block_of(rest, room, Suite::Members, suite))?;
     let class = Class {
         decorators,
         name,

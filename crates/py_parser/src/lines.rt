@@ -23,6 +23,7 @@ use py_simple::imports::{from_of, import_of};
 use py_simple::literals::texts_of;
 use py_simple::names::plain_name_of;
 use py_simple::simple::{annotated_of, assigned_of, begun_with, simple_of, word_token};
+use py_simple::steps::with;
 use py_simple::words::{
     DEDENT, ELLIPSIS, EQUAL, FROM, IMPORT, NAME, NEWLINE, SEMICOLON, begins_file_simple,
     begins_member, begins_simple, stands_word,
@@ -83,7 +84,7 @@ fn member_simple_of(alloc: Global, tokens: &[Token]) -> Taken<'_, Stmt>
 {
     if stands(tokens, NAME) {
         let (name, rest) = plain_name_of(tokens)?;
-        let (tail, rest) = member_tail_of(alloc, rest)?;
+        let ((name, tail), rest) = with(name, member_tail_of(alloc, rest))?;
         return Ok((member_of(name, tail), rest));
     }
     if stands_word(tokens, false) {

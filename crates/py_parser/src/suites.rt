@@ -7,7 +7,7 @@ ghost use Rattle.phrases.specs.Reading.{Read};
 ghost use Rattle.phrases.specs.Phrases.{sequence, many};
 ghost use Rattle.phrases.specs.Loops.{Gives, with_front};
 ghost use Rattle.py_ast.specs.Kinds.{class};
-ghost use Rattle.py_ast.specs.Grammar.{mapped, expr};
+ghost use Rattle.py_ast.specs.Grammar.{mapped, past, ended, expr};
 ghost use Rattle.py_ast.specs.Literals.{literal};
 ghost use Rattle.py_ast.specs.Statements.{cons};
 ghost use Rattle.py_ast.specs.Files.{suites, suite_first, indented, body_statement, member_statement};
@@ -24,6 +24,7 @@ use py_ast::{Stmt, Suite};
 use py_expr::class::class_of;
 use py_expr::token::{Taken, mark, stands};
 use py_lexer::Token;
+use py_simple::steps::before;
 use py_simple::words::{
     DEDENT, INDENT, NEWLINE, begins_compound, begins_function, begins_member, begins_simple,
     stands_compound, stands_function,
@@ -179,8 +180,42 @@ where
     statements_into(alloc, rest, room, kind, suite, first)
 }
 
+/// The simple statements on the line of the `:` of a block.
+fn same_line_of(alloc: Global, tokens: &[Token], kind: Suite) -> Taken<'_, Items<Stmt>>
+    ensures read { Gives (λ x. Read x.0 x.1.now) result ((simples_line (expr 100) (simples_of kind)).read tokens.now) }
+    ensures shorter { IfOk result (λ x. length x.1.now < length tokens.now) }
+{
+    // With room for no other, as most such lines have one statement.
+    let none = Vec::with_capacity(alloc, 1)?;
+    let (all, rest) = line_into(alloc, tokens, simples_of(kind), none)?;
+    Ok((Items::from_vec(all), rest))
+}
+
+/// The statements of a block, indented on lines of their own.
+#[tactic(auto, unfolding(py_ast::specs::Grammar::past, py_ast::specs::Grammar::ended))]
+fn indented_of<'a, S>(
+    alloc: Global,
+    tokens: &'a [Token],
+    room: u8,
+    kind: Suite,
+    suite: &S,
+) -> Taken<'a, Items<Stmt>>
+where
+    S: Fn(Suite, &[Token]) -> Taken<'_, Items<Stmt>>,
+    requires callable { S.IsAlwaysCallable suite.now }
+    requires reads { ReadsSuites (λ s ts r. S.post suite.now s ts r) room }
+    ensures read { Gives (λ x. Read x.0 x.1.now) result ((past 5 (past 6 (ended (mapped (sequence (statement room (suites 100 room) kind) (λ s. many class (statement_first kind) (statement room (suites 100 room) kind)) cons) (flat_map (λ s. s))) 7))).read tokens.now) }
+    ensures shorter { IfOk result (λ x. length x.1.now < length tokens.now) }
+{
+    let (_, rest) = mark(tokens, NEWLINE)?;
+    let (_, rest) = mark(rest, INDENT)?;
+    let (statements, rest) = statements_of(alloc, rest, room, kind, suite)?;
+    let (statements, rest) = before(statements, rest, DEDENT)?;
+    Ok((Items::from_vec(statements), rest))
+}
+
 /// What stands behind the `:` of a block: statements, indented on lines of their own, or simple ones on the same line.
-#[tactic(auto, unfolding(py_ast::specs::Files::indented, py_ast::specs::Grammar::past, py_ast::specs::Grammar::ended))]
+#[tactic(auto, unfolding(py_ast::specs::Files::indented))]
 fn suite_over_of<'a, S>(
     alloc: Global,
     tokens: &'a [Token],
@@ -195,17 +230,11 @@ where
     ensures read { Gives (λ x. Read x.0 x.1.now) result ((indented (statement_first kind) (statement room (suites 100 room) kind) (simples_line (expr 100) (simples_of kind))).read tokens.now) }
     ensures shorter { IfOk result (λ x. length x.1.now < length tokens.now) }
 {
-    if !stands(tokens, NEWLINE) {
-        // With room for no other, as most such lines have one statement.
-        let none = Vec::with_capacity(alloc, 1)?;
-        let (all, rest) = line_into(alloc, tokens, simples_of(kind), none)?;
-        return Ok((Items::from_vec(all), rest));
+    if stands(tokens, NEWLINE) {
+        indented_of(alloc, tokens, room, kind, &suite)
+    } else {
+        same_line_of(alloc, tokens, kind)
     }
-    let (_, rest) = mark(tokens, NEWLINE)?;
-    let (_, rest) = mark(rest, INDENT)?;
-    let (statements, rest) = statements_of(alloc, rest, room, kind, &suite)?;
-    let (_, rest) = mark(rest, DEDENT)?;
-    Ok((Items::from_vec(statements), rest))
 }
 
 /// Whether the class begins what stands behind a `:`.
