@@ -7,7 +7,7 @@ ghost use Rattle.phrases.specs.Phrases.{many, sequence};
 ghost use Rattle.phrases.specs.Loops.{Gives};
 ghost use Rattle.py_ast.specs.Kinds.{class};
 ghost use Rattle.py_ast.specs.Trees.{has_keyword, optional_items};
-ghost use Rattle.py_ast.specs.Grammar.{mapped, past, both, comma_item, comma_items, goes_past};
+ghost use Rattle.py_ast.specs.Grammar.{mapped, past, ended, both, comma_item, comma_items, goes_past};
 ghost use Rattle.py_ast.specs.Literals.{literal, literal_argument, literal_argument_first, literal_arguments};
 ghost use Rattle.py_ast.specs.Statements.{optional, in_parentheses};
 ghost use Rattle.py_ast.specs.Files.{is_left_out, dots, decorator_name, decorator, decorators};
@@ -127,8 +127,18 @@ fn arguments_of(alloc: Global, tokens: &[Token]) -> Taken<'_, Row<Argument>>
     with(first, comma_arguments_of(alloc, rest, keyword))
 }
 
+/// Literal arguments up to the closing parenthesis.
+#[tactic(auto, unfolding(py_ast::specs::Grammar::ended))]
+fn closed_arguments_of(alloc: Global, tokens: &[Token]) -> Taken<'_, Row<Argument>>
+    ensures read { Gives (λ x. Read (x.0.0, x.0.1) x.1.now) result ((ended (literal_arguments (literal 100)) 72).read tokens.now) }
+    ensures shorter { IfOk result (λ x. length x.1.now < length tokens.now) }
+{
+    let (arguments, rest) = arguments_of(alloc, tokens)?;
+    before(arguments, rest, RIGHT_PAREN)
+}
+
 /// Literal arguments between parentheses, or none.
-#[tactic(auto, unfolding(py_ast::specs::Statements::in_parentheses, py_ast::specs::Grammar::mapped, py_ast::specs::Grammar::past, py_ast::specs::Grammar::ended))]
+#[tactic(auto, unfolding(py_ast::specs::Statements::in_parentheses, py_ast::specs::Grammar::mapped, py_ast::specs::Grammar::past))]
 fn call_of(alloc: Global, tokens: &[Token]) -> Taken<'_, Items<Argument>>
     ensures read { Gives (λ x. Read x.0 x.1.now) result ((mapped (in_parentheses (literal_argument_first (false)) (literal_arguments (literal 100))) optional_items).read tokens.now) }
     ensures shorter { IfOk result (λ x. length x.1.now < length tokens.now) }
@@ -138,8 +148,7 @@ fn call_of(alloc: Global, tokens: &[Token]) -> Taken<'_, Items<Argument>>
         let (_, rest) = mark(rest, RIGHT_PAREN)?;
         return Ok((Items::new(alloc), rest));
     }
-    let (arguments, rest) = arguments_of(alloc, rest)?;
-    let (arguments, rest) = before(arguments, rest, RIGHT_PAREN)?;
+    let (arguments, rest) = closed_arguments_of(alloc, rest)?;
     Ok((as_items(alloc, Some(arguments))?, rest))
 }
 

@@ -7,7 +7,8 @@ ghost use Rattle.phrases.specs.Phrases.{many, token, nothing, sequence, either};
 ghost use Rattle.phrases.specs.Loops.{Gives};
 ghost use Rattle.py_ast.specs.Kinds.{class, mark_of};
 ghost use Rattle.py_ast.specs.Tokens.{name_codes};
-ghost use Rattle.py_ast.specs.Grammar.{mapped, past, ended, comma_item, comma_items, goes_past};
+ghost use Rattle.py_ast.specs.Trees.{all_given};
+ghost use Rattle.py_ast.specs.Grammar.{mapped, past, ended, both, comma_item, comma_items, goes_past};
 ghost use Rattle.py_ast.specs.Statements.{name, dotted, alias, optional, imported_of, imported_name, imported_names, import_stmt, from_stmt, with_commas, cons};
 
 use crate::steps::{before, with};
@@ -226,22 +227,40 @@ fn comma_names_of(alloc: Global, tokens: &[Token]) -> Taken<'_, Items<(Pos, Opti
     )
 }
 
+/// Names with commas between them.
+#[tactic(auto, unfolding(py_ast::specs::Statements::with_commas))]
+fn bare_names_of(alloc: Global, tokens: &[Token]) -> Taken<'_, Items<ImportedName>>
+    ensures read { Gives (λ x. Read x.0 x.1.now) result ((with_commas imported_name).read tokens.now) }
+    ensures shorter { IfOk result (λ x. length x.1.now < length tokens.now) }
+{
+    let (first, rest) = imported_name_of(tokens)?;
+    let ((first, others), rest) = with(first, further_names_of(alloc, rest))?;
+    Ok((prepended(alloc, first, others)?, rest))
+}
+
+/// Names up to the closing parenthesis, with commas between them, and one behind the last if there is one.
+#[tactic(auto, unfolding(py_ast::specs::Grammar::mapped, py_ast::specs::Grammar::ended))]
+fn closed_names_of(alloc: Global, tokens: &[Token]) -> Taken<'_, Items<ImportedName>>
+    ensures read { Gives (λ x. Read x.0 x.1.now) result ((ended (mapped (sequence imported_name (λ n. comma_items (λ s. name_codes) (λ s. imported_name) (λ n. tt {0}) (tt {0})) both) all_given) 72).read tokens.now) }
+    ensures shorter { IfOk result (λ x. length x.1.now < length tokens.now) }
+{
+    let (first, rest) = imported_name_of(tokens)?;
+    let (names, rest) = with(first, comma_names_of(alloc, rest))?;
+    let ((first, others), rest) = before(names, rest, RIGHT_PAREN)?;
+    Ok((given_after(alloc, first, others)?, rest))
+}
+
 /// The names of a `from` import, in parentheses or without.
-#[tactic(auto, unfolding(py_ast::specs::Statements::imported_names, py_ast::specs::Statements::with_commas, py_ast::specs::Grammar::mapped, py_ast::specs::Grammar::past, py_ast::specs::Grammar::ended))]
+#[tactic(auto, unfolding(py_ast::specs::Statements::imported_names, py_ast::specs::Grammar::past))]
 fn imported_names_of(alloc: Global, tokens: &[Token]) -> Taken<'_, Items<ImportedName>>
     ensures read { Gives (λ x. Read x.0 x.1.now) result (imported_names.read tokens.now) }
     ensures shorter { IfOk result (λ x. length x.1.now < length tokens.now) }
 {
     if stands_name(tokens) {
-        let (first, rest) = imported_name_of(tokens)?;
-        let ((first, others), rest) = with(first, further_names_of(alloc, rest))?;
-        return Ok((prepended(alloc, first, others)?, rest));
+        return bare_names_of(alloc, tokens);
     }
     let (_, rest) = mark(tokens, LEFT_PAREN)?;
-    let (first, rest) = imported_name_of(rest)?;
-    let (names, rest) = with(first, comma_names_of(alloc, rest))?;
-    let ((first, others), rest) = before(names, rest, RIGHT_PAREN)?;
-    Ok((given_after(alloc, first, others)?, rest))
+    closed_names_of(alloc, rest)
 }
 
 /// `from`, a module, `import` and names.

@@ -8,7 +8,7 @@ ghost use Rattle.phrases.specs.Loops.{Gives};
 ghost use Rattle.py_ast.specs.Kinds.{class, mark_of};
 ghost use Rattle.py_ast.specs.Tokens.{name_codes, name_of};
 ghost use Rattle.py_ast.specs.Grammar.{mapped, past, ended, second, comma_item, comma_items, goes_past, expr};
-ghost use Rattle.py_ast.specs.Statements.{name, optional, further_names, loop_names, parameter, default, has_default, parameters, in_parentheses, signature, base, all_of};
+ghost use Rattle.py_ast.specs.Statements.{cons, name, optional, further_names, loop_names, parameter, default, has_default, parameters, in_parentheses, signature, base, all_of};
 
 use crate::imports::{dotted_of, name_of, prepended};
 use crate::simple::NESTINGS;
@@ -94,22 +94,39 @@ fn more_names_of(alloc: Global, tokens: &[Token]) -> Taken<'_, Items<NameAt>>
     }
 }
 
+/// The names of a loop without parentheses: one, or several.
+fn bare_names_of(alloc: Global, tokens: &[Token]) -> Taken<'_, Items<NameAt>>
+    ensures read { Gives (λ x. Read x.0 x.1.now) result ((sequence name (λ n. either class (77 ∷ []) further_names (nothing [])) cons).read tokens.now) }
+    ensures shorter { IfOk result (λ x. length x.1.now < length tokens.now) }
+{
+    let (first, rest) = name_of(tokens)?;
+    let ((first, others), rest) = with(first, more_names_of(alloc, rest))?;
+    Ok((prepended(alloc, first, others)?, rest))
+}
+
+/// Several names of a loop, up to the closing parenthesis.
+#[tactic(auto, unfolding(py_ast::specs::Grammar::ended))]
+fn closed_names_of(alloc: Global, tokens: &[Token]) -> Taken<'_, Items<NameAt>>
+    ensures read { Gives (λ x. Read x.0 x.1.now) result ((ended (sequence name (λ n. further_names) cons) 72).read tokens.now) }
+    ensures shorter { IfOk result (λ x. length x.1.now < length tokens.now) }
+{
+    let (first, rest) = name_of(tokens)?;
+    let (names, rest) = with(first, further_names_of(alloc, rest))?;
+    let ((first, others), rest) = before(names, rest, RIGHT_PAREN)?;
+    Ok((prepended(alloc, first, others)?, rest))
+}
+
 /// The names of a loop: one, or several with parentheses round them or without.
-#[tactic(auto, unfolding(py_ast::specs::Statements::loop_names, py_ast::specs::Grammar::past, py_ast::specs::Grammar::ended))]
+#[tactic(auto, unfolding(py_ast::specs::Statements::loop_names, py_ast::specs::Grammar::past))]
 pub fn loop_names_of(alloc: Global, tokens: &[Token]) -> Taken<'_, Items<NameAt>>
     ensures read { Gives (λ x. Read x.0 x.1.now) result (loop_names.read tokens.now) }
     ensures shorter { IfOk result (λ x. length x.1.now < length tokens.now) }
 {
     if stands_name(tokens) {
-        let (first, rest) = name_of(tokens)?;
-        let ((first, others), rest) = with(first, more_names_of(alloc, rest))?;
-        return Ok((prepended(alloc, first, others)?, rest));
+        return bare_names_of(alloc, tokens);
     }
     let (_, rest) = mark(tokens, LEFT_PAREN)?;
-    let (first, rest) = name_of(rest)?;
-    let (names, rest) = with(first, further_names_of(alloc, rest))?;
-    let ((first, others), rest) = before(names, rest, RIGHT_PAREN)?;
-    Ok((prepended(alloc, first, others)?, rest))
+    closed_names_of(alloc, rest)
 }
 
 /// An expression behind a token of one class, if that stands here.
