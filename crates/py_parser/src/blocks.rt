@@ -5,17 +5,17 @@
 ghost use Rattle.std.specs.Prelude.{◌≡◌, ◌<◌, ◌≤◌, ◌∷◌, [], ℕ, List, IfOk, length};
 ghost use Rattle.phrases.specs.Sets.{has};
 ghost use Rattle.phrases.specs.Reading.{Read};
-ghost use Rattle.phrases.specs.Phrases.{many};
+ghost use Rattle.phrases.specs.Phrases.{sequence, many};
 ghost use Rattle.phrases.specs.Loops.{Gives, with_front};
 ghost use Rattle.py_ast.specs.Kinds.{class};
-ghost use Rattle.py_ast.specs.Grammar.{mapped, expr};
-ghost use Rattle.py_ast.specs.Statements.{block, branch, else_block, if_stmt, while_stmt, for_stmt, names_anchor};
+ghost use Rattle.py_ast.specs.Grammar.{mapped, past, both, exprs, expr};
+ghost use Rattle.py_ast.specs.Statements.{block, branch, branches, else_block, if_stmt, while_stmt, for_stmt, names_anchor};
 ghost use Rattle.py_ast.specs.Files.{suites, compound, single};
 ghost use Rattle.py_parser.specs.Suites.{ReadsSuites};
 
 use crate::lines::one_more;
 use phrases::many;
-use py_ast::{Branch, NameAt, Stmt, StmtForm, Suite};
+use py_ast::{Branch, Expr, NameAt, Stmt, StmtForm, Suite};
 use py_expr::class::class_of;
 use py_expr::expr::{expr_of, exprs_of};
 use py_expr::token::{Taken, mark, open, stands};
@@ -23,7 +23,7 @@ use py_lexer::Token;
 use py_literals::place::Pos;
 use py_simple::names::loop_names_of;
 use py_simple::simple::{NESTINGS, word_stmt};
-use py_simple::steps::{before, with};
+use py_simple::steps::with;
 use py_simple::words::{COLON, ELIF, ELSE, FOR, IF, IN, WHILE};
 use sqlite_items::Items;
 use std::alloc::Global;
@@ -64,6 +64,25 @@ where
     inner_suite_of(rest, room, kind, suite)
 }
 
+/// A condition and a block.
+fn conditioned_of<'a, S>(
+    alloc: Global,
+    tokens: &'a [Token],
+    room: u8,
+    kind: Suite,
+    suite: &S,
+) -> Taken<'a, (Expr, Items<Stmt>)>
+where
+    S: Fn(Suite, &[Token]) -> Taken<'_, Items<Stmt>>,
+    requires callable { S.IsAlwaysCallable suite.now }
+    requires reads { ReadsSuites (λ s ts r. S.post suite.now s ts r) room }
+    ensures read { Gives (λ x. Read (x.0.0, x.0.1) x.1.now) result ((sequence (expr 100) (λ c. block room (suites 100 room kind)) both).read tokens.now) }
+    ensures shorter { IfOk result (λ x. length x.1.now < length tokens.now) }
+{
+    let (condition, rest) = expr_of(alloc, tokens, NESTINGS)?;
+    with(condition, block_of(rest, room, kind, suite))
+}
+
 /// A word, a condition and a block.
 #[tactic(auto, unfolding(py_ast::specs::Statements::branch))]
 fn branch_of<'a, S>(
@@ -82,8 +101,7 @@ where
     ensures shorter { IfOk result (λ x. length x.1.now < length tokens.now) }
 {
     let (at, rest) = mark(tokens, word)?;
-    let (condition, rest) = expr_of(alloc, rest, NESTINGS)?;
-    let ((condition, body), rest) = with(condition, block_of(rest, room, kind, suite))?;
+    let ((condition, body), rest) = conditioned_of(alloc, rest, room, kind, suite)?;
     Ok((
         Branch {
             at,
@@ -147,8 +165,28 @@ where
     block_of(rest, room, kind, suite)
 }
 
+/// An `if` with each `elif`.
+#[tactic(auto, unfolding(py_ast::specs::Statements::branches))]
+fn branches_of<'a, S>(
+    alloc: Global,
+    tokens: &'a [Token],
+    room: u8,
+    kind: Suite,
+    suite: &S,
+) -> Taken<'a, (Branch, Items<Branch>)>
+where
+    S: Fn(Suite, &[Token]) -> Taken<'_, Items<Stmt>>,
+    requires callable { S.IsAlwaysCallable suite.now }
+    requires reads { ReadsSuites (λ s ts r. S.post suite.now s ts r) room }
+    ensures read { Gives (λ x. Read (x.0.0, x.0.1) x.1.now) result ((branches (expr 100) room (suites 100 room kind)).read tokens.now) }
+    ensures shorter { IfOk result (λ x. length x.1.now < length tokens.now) }
+{
+    let (first, rest) = branch_of(alloc, tokens, IF, room, kind, suite)?;
+    with(first, further_branches_of(alloc, rest, room, kind, suite))
+}
+
 /// An `if` with each `elif` and the `else`.
-#[tactic(auto, unfolding(py_ast::specs::Statements::if_stmt, py_ast::specs::Statements::branches))]
+#[tactic(auto, unfolding(py_ast::specs::Statements::if_stmt))]
 fn if_of<'a, S>(
     alloc: Global,
     tokens: &'a [Token],
@@ -163,8 +201,7 @@ where
     ensures read { Gives (λ x. Read x.0 x.1.now) result ((if_stmt (expr 100) room (suites 100 room kind)).read tokens.now) }
     ensures shorter { IfOk result (λ x. length x.1.now < length tokens.now) }
 {
-    let (first, rest) = branch_of(alloc, tokens, IF, room, kind, suite)?;
-    let (branches, rest) = with(first, further_branches_of(alloc, rest, room, kind, suite))?;
+    let (branches, rest) = branches_of(alloc, tokens, room, kind, suite)?;
     let (((first, others), otherwise), rest) = with(
         branches,
         else_of(alloc, rest, room, kind, suite),
@@ -190,8 +227,7 @@ where
     ensures shorter { IfOk result (λ x. length x.1.now < length tokens.now) }
 {
     let (at, rest) = mark(tokens, WHILE)?;
-    let (condition, rest) = expr_of(alloc, rest, NESTINGS)?;
-    let ((condition, body), rest) = with(condition, block_of(rest, room, kind, suite))?;
+    let ((condition, body), rest) = conditioned_of(alloc, rest, room, kind, suite)?;
     Ok((word_stmt(at, StmtForm::While(condition, body)), rest))
 }
 
@@ -205,8 +241,29 @@ fn names_anchor(at: Pos, names: &[NameAt]) -> Pos
     }
 }
 
+/// `in`, what is gone through, and a block.
+#[tactic(auto, unfolding(py_ast::specs::Grammar::past))]
+fn iterated_of<'a, S>(
+    alloc: Global,
+    tokens: &'a [Token],
+    room: u8,
+    kind: Suite,
+    suite: &S,
+) -> Taken<'a, (Expr, Items<Stmt>)>
+where
+    S: Fn(Suite, &[Token]) -> Taken<'_, Items<Stmt>>,
+    requires callable { S.IsAlwaysCallable suite.now }
+    requires reads { ReadsSuites (λ s ts r. S.post suite.now s ts r) room }
+    ensures read { Gives (λ x. Read (x.0.0, x.0.1) x.1.now) result ((past 37 (sequence (exprs (expr 100)) (λ i. block room (suites 100 room kind)) both)).read tokens.now) }
+    ensures shorter { IfOk result (λ x. length x.1.now < length tokens.now) }
+{
+    let (_, rest) = mark(tokens, IN)?;
+    let (iterated, rest) = exprs_of(alloc, rest, NESTINGS)?;
+    with(iterated, block_of(rest, room, kind, suite))
+}
+
 /// A `for` with its block.
-#[tactic(auto, unfolding(py_ast::specs::Statements::for_stmt, py_ast::specs::Grammar::past))]
+#[tactic(auto, unfolding(py_ast::specs::Statements::for_stmt))]
 fn for_of<'a, S>(
     alloc: Global,
     tokens: &'a [Token],
@@ -223,9 +280,10 @@ where
 {
     let (node, rest) = mark(tokens, FOR)?;
     let (names, rest) = loop_names_of(alloc, rest)?;
-    let (names, rest) = before(names, rest, IN)?;
-    let (header, rest) = with(names, exprs_of(alloc, rest, NESTINGS))?;
-    let (((names, iterated), body), rest) = with(header, block_of(rest, room, kind, suite))?;
+    let ((names, (iterated, body)), rest) = with(
+        names,
+        iterated_of(alloc, rest, room, kind, suite),
+    )?;
     let anchor = names_anchor(node, names.as_slice());
     Ok((
         Stmt {

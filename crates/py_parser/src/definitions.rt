@@ -2,17 +2,18 @@
 
 ghost use Rattle.std.specs.Prelude.{◌≡◌, ◌<◌, ◌≤◌, ◌∷◌, [], ℕ, true, false, List, IfOk, length};
 ghost use Rattle.phrases.specs.Reading.{Read};
+ghost use Rattle.phrases.specs.Phrases.{sequence};
 ghost use Rattle.phrases.specs.Loops.{Gives, with_front};
-ghost use Rattle.py_ast.specs.Grammar.{mapped, expr};
+ghost use Rattle.py_ast.specs.Grammar.{mapped, both, expr};
 ghost use Rattle.py_ast.specs.Literals.{literal};
-ghost use Rattle.py_ast.specs.Statements.{function, class_stmt};
+ghost use Rattle.py_ast.specs.Statements.{block, name, signature, function, base, class_stmt};
 ghost use Rattle.py_ast.specs.Files.{suites, single, decorated_function, definition, decorated};
 ghost use Rattle.py_ast.specs.declared.statement.Suite.TheVariants.{Body, Members};
 ghost use Rattle.py_parser.specs.Suites.{ReadsSuites};
 
 use crate::blocks::block_of;
 use crate::lines::one_more;
-use py_ast::{Class, Decorator, Function, Stmt, StmtForm, Suite};
+use py_ast::{Class, Decorator, Dotted, Expr, Function, NameAt, Parameter, Stmt, StmtForm, Suite};
 use py_expr::token::{Taken, mark, stands};
 use py_lexer::Token;
 use py_simple::decorators::decorators_of;
@@ -21,8 +22,29 @@ use py_simple::names::{base_of, signature_of};
 use py_simple::simple::word_stmt;
 use py_simple::steps::with;
 use py_simple::words::{AT, CLASS, DEF};
-use sqlite_items::Items;
+use sqlite_items::{Boxed, Items};
 use std::alloc::Global;
+
+/// Parameters, the annotation of what is returned if there is one, and a block.
+fn signature_and_body_of<'a, S>(
+    alloc: Global,
+    tokens: &'a [Token],
+    room: u8,
+    suite: &S,
+) -> Taken<'a, ((Items<Parameter>, Option<Boxed<Expr>>), Items<Stmt>)>
+where
+    S: Fn(Suite, &[Token]) -> Taken<'_, Items<Stmt>>,
+    requires callable { S.IsAlwaysCallable suite.now }
+    requires reads { ReadsSuites (λ s ts r. S.post suite.now s ts r) room }
+    ensures read { Gives (λ x. Read ((x.0.0.0, x.0.0.1), x.0.1) x.1.now) result ((sequence (signature (expr 100)) (λ s. block room (suites 100 room (Body (true) (false)))) both).read tokens.now) }
+    ensures shorter { IfOk result (λ x. length x.1.now < length tokens.now) }
+{
+    let (signature, rest) = signature_of(alloc, tokens)?;
+    with(
+        signature,
+        block_of(rest, room, Suite::Body(true, false), suite),
+    )
+}
 
 /// A function with these decorators.
 #[tactic(auto, unfolding(py_ast::specs::Statements::function))]
@@ -42,10 +64,9 @@ where
 {
     let (at, rest) = mark(tokens, DEF)?;
     let (name, rest) = name_of(rest)?;
-    let (header, rest) = with(name, signature_of(alloc, rest))?;
-    let (((name, (parameters, returns)), body), rest) = with(
-        header,
-        block_of(rest, room, Suite::Body(true, false), suite),
+    let ((name, ((parameters, returns), body)), rest) = with(
+        name,
+        signature_and_body_of(alloc, rest, room, suite),
     )?;
     let function = Function {
         decorators,
@@ -55,6 +76,15 @@ where
         body,
     };
     Ok((word_stmt(at, StmtForm::Function(function)), rest))
+}
+
+/// The name of a class, and its base if it has one.
+fn class_head_of(alloc: Global, tokens: &[Token]) -> Taken<'_, (NameAt, Option<Dotted>)>
+    ensures read { Gives (λ x. Read (x.0.0, x.0.1) x.1.now) result ((sequence name (λ n. base) both).read tokens.now) }
+    ensures shorter { IfOk result (λ x. length x.1.now < length tokens.now) }
+{
+    let (name, rest) = name_of(tokens)?;
+    with(name, base_of(alloc, rest))
 }
 
 /// A class with these decorators.
@@ -74,9 +104,8 @@ where
     ensures shorter { IfOk result (λ x. length x.1.now < length tokens.now) }
 {
     let (at, rest) = mark(tokens, CLASS)?;
-    let (name, rest) = name_of(rest)?;
-    let (header, rest) = with(name, base_of(alloc, rest))?;
-    let (((name, base), body), rest) = with(header, block_of(rest, room, Suite::Members, suite))?;
+    let (head, rest) = class_head_of(alloc, rest)?;
+    let (((name, base), body), rest) = with(head, block_of(rest, room, Suite::Members, suite))?;
     let class = Class {
         decorators,
         name,

@@ -7,6 +7,7 @@ ghost use Rattle.phrases.specs.Phrases.{token, sequence, either};
 ghost use Rattle.phrases.specs.Series.{series};
 ghost use Rattle.phrases.specs.Loops.{Gives, with_front};
 ghost use Rattle.py_ast.specs.Kinds.{class, mark_of};
+ghost use Rattle.py_ast.specs.Tokens.{name_of};
 ghost use Rattle.py_ast.specs.Grammar.{mapped, goes_past, expr};
 ghost use Rattle.py_ast.specs.Statements.{optional, assigned, annotated, further, line};
 ghost use Rattle.py_ast.specs.Files.{member_of, name_expr, ellipsis_of, member_simple, file_simple};
@@ -76,6 +77,16 @@ fn ellipsis_of(at: Pos) -> Stmt
     )
 }
 
+/// A name and what follows it, as a statement of a class.
+fn named_member_of(alloc: Global, tokens: &[Token]) -> Taken<'_, Stmt>
+    ensures read { Gives (λ x. Read x.0 x.1.now) result ((sequence (token (name_of (1 ∷ []))) (λ n. either class (81 ∷ []) (assigned (expr 100)) (annotated (expr 100))) member_of).read tokens.now) }
+    ensures shorter { IfOk result (λ x. length x.1.now < length tokens.now) }
+{
+    let (name, rest) = plain_name_of(tokens)?;
+    let ((name, tail), rest) = with(name, member_tail_of(alloc, rest))?;
+    Ok((member_of(name, tail), rest))
+}
+
 /// A simple statement of a class.
 #[tactic(auto, unfolding(py_ast::specs::Files::member_simple, py_ast::specs::Grammar::mapped))]
 fn member_simple_of(alloc: Global, tokens: &[Token]) -> Taken<'_, Stmt>
@@ -83,9 +94,7 @@ fn member_simple_of(alloc: Global, tokens: &[Token]) -> Taken<'_, Stmt>
     ensures shorter { IfOk result (λ x. length x.1.now < length tokens.now) }
 {
     if stands(tokens, NAME) {
-        let (name, rest) = plain_name_of(tokens)?;
-        let ((name, tail), rest) = with(name, member_tail_of(alloc, rest))?;
-        return Ok((member_of(name, tail), rest));
+        return named_member_of(alloc, tokens);
     }
     if stands_word(tokens, false) {
         return word_token(tokens, false);

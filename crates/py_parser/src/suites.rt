@@ -191,8 +191,30 @@ fn same_line_of(alloc: Global, tokens: &[Token], kind: Suite) -> Taken<'_, Items
     Ok((Items::from_vec(all), rest))
 }
 
-/// The statements of a block, indented on lines of their own.
+/// The statements of a block, from where it is indented to its end.
 #[tactic(auto, unfolding(py_ast::specs::Grammar::past, py_ast::specs::Grammar::ended))]
+fn indented_lines_of<'a, S>(
+    alloc: Global,
+    tokens: &'a [Token],
+    room: u8,
+    kind: Suite,
+    suite: &S,
+) -> Taken<'a, Items<Stmt>>
+where
+    S: Fn(Suite, &[Token]) -> Taken<'_, Items<Stmt>>,
+    requires callable { S.IsAlwaysCallable suite.now }
+    requires reads { ReadsSuites (λ s ts r. S.post suite.now s ts r) room }
+    ensures read { Gives (λ x. Read x.0 x.1.now) result ((past 6 (ended (mapped (sequence (statement room (suites 100 room) kind) (λ s. many class (statement_first kind) (statement room (suites 100 room) kind)) cons) (flat_map (λ s. s))) 7)).read tokens.now) }
+    ensures shorter { IfOk result (λ x. length x.1.now < length tokens.now) }
+{
+    let (_, rest) = mark(tokens, INDENT)?;
+    let (statements, rest) = statements_of(alloc, rest, room, kind, suite)?;
+    let (statements, rest) = before(statements, rest, DEDENT)?;
+    Ok((Items::from_vec(statements), rest))
+}
+
+/// The statements of a block, indented on lines of their own.
+#[tactic(auto, unfolding(py_ast::specs::Grammar::past))]
 fn indented_of<'a, S>(
     alloc: Global,
     tokens: &'a [Token],
@@ -208,10 +230,7 @@ where
     ensures shorter { IfOk result (λ x. length x.1.now < length tokens.now) }
 {
     let (_, rest) = mark(tokens, NEWLINE)?;
-    let (_, rest) = mark(rest, INDENT)?;
-    let (statements, rest) = statements_of(alloc, rest, room, kind, suite)?;
-    let (statements, rest) = before(statements, rest, DEDENT)?;
-    Ok((Items::from_vec(statements), rest))
+    indented_lines_of(alloc, rest, room, kind, suite)
 }
 
 /// What stands behind the `:` of a block: statements, indented on lines of their own, or simple ones on the same line.
