@@ -1,7 +1,7 @@
 //! Steps of readers, for values of any type.
 //!
-//! A tree that is owned where a reader may stop is dropped there, part by part. So a value that was read waits here while what stands
-//! behind it is read: what is proved of these functions, and of their callers, knows nothing of how it is dropped.
+//! A tree that is owned where a reader may stop is dropped there, part by part. So a value that was read waits here while what
+//! stands behind it is read: what is proved of these functions, and of their callers, knows nothing of how it is dropped.
 
 ghost use Rattle.std.specs.Prelude.{◌≡◌, ◌<◌, ℕ, List, Ok, Err, IfOk, IfErr, length};
 ghost use Rattle.phrases.specs.Reading.{Read, after};
