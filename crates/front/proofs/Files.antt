@@ -2,33 +2,15 @@
 use Rattle.std.proofs.Common.{◌≡◌, Some, subst}
 use Rattle.rv_names.specs.Keys.{Bytes}
 use Rattle.project.specs.Items.{Fits}
-use Rattle.project.specs.Paths.{kind_of_path, place_of}
+use Rattle.project.specs.Paths.{kind_of_path}
 use Rattle.project.specs.declared.item.Item.{Item}
 use Rattle.project.specs.declared.item.Item.TheVariants as items
 use Rattle.project.specs.declared.path.PathKind.{PathKind}
 use Rattle.project.specs.declared.path.PathKind.TheVariants as kinds
 use Rattle.project.specs.declared.path.Place.{Place}
-use Rattle.front.specs.Places.{FailsAt, ReadsAt, StandsAs}
-use Rattle.front.specs.Reading.{Accepted, FailsAs, IsText, Misplaced, ReadsAs, Refused, Unread}
+use Rattle.front.specs.Reading.{Accepted, FailsAs, FailsAt, IsText, Misplaced, ReadsAs, ReadsAt, Refused, StandsAs, Unread}
 use Rattle.front.specs.declared.faults.ReadFault.{ReadFault}
 use Rattle.front.specs.declared.faults.ReadFault.TheVariants as faults
-
--- by the kind of files at the path, and by the kind with the name
-reads : (kind : PathKind) (place : Place) (bytes : Bytes) (item : Item) → place ≡ place_of kind → ReadsAt place bytes item → ReadsAs kind bytes item
-reads kind place bytes item e r = go kind (subst (λ p. ReadsAt p bytes item) e r)
-  where
-    go : (kind : PathKind) → ReadsAt (place_of kind) bytes item → ReadsAs kind bytes item
-    go (kinds.Module name) r = r
-    go kinds.Models r = r
-    go kinds.Config r = r
-
-fails : (kind : PathKind) (place : Place) (bytes : Bytes) (fault : ReadFault) → place ≡ place_of kind → FailsAt place bytes fault → FailsAs kind bytes fault
-fails kind place bytes fault e r = go kind (subst (λ p. FailsAt p bytes fault) e r)
-  where
-    go : (kind : PathKind) → FailsAt (place_of kind) bytes fault → FailsAs kind bytes fault
-    go (kinds.Module name) r = r
-    go kinds.Models r = r
-    go kinds.Config r = r
 
 fitting : (path bytes : Bytes) (kind : PathKind) (item : Item) → kind_of_path path ≡ Some kind → ReadsAs kind bytes item → Fits path item
 fitting path bytes (kinds.Module name) (items.Module parsed) h r = (name, h)
@@ -45,10 +27,10 @@ misreading path bytes kinds.Models _ h t r = absurd r
 misreading path bytes kinds.Config _ h t r = absurd r
 
 pub accepted : (path bytes : Bytes) (place : Place) (item : Item) → StandsAs path place → IsText bytes → ReadsAt place bytes item → Accepted path bytes item
-accepted path bytes place item s t r = record { kind = s.0; stands = s.1; text = t; reads = reads s.0 place bytes item s.2 r }
+accepted path bytes place item s t r = record { kind = s.0; stands = s.1; text = t; reads = subst (λ p. ReadsAt p bytes item) s.2 r }
 
 pub fits : (path bytes : Bytes) (place : Place) (item : Item) → StandsAs path place → ReadsAt place bytes item → Fits path item
-fits path bytes place item s r = fitting path bytes s.0 item s.1 (reads s.0 place bytes item s.2 r)
+fits path bytes place item s r = fitting path bytes s.0 item s.1 (subst (λ p. ReadsAt p bytes item) s.2 r)
 
 pub misplaced : (path bytes : Bytes) (fault : ReadFault) → Misplaced path fault → Refused path bytes fault
 misplaced path bytes faults.BadPath m = m
@@ -61,4 +43,4 @@ unreadable path bytes place _ s u = absurd u
 
 -- the fault of a text, whichever the kind
 pub misread : (path bytes : Bytes) (place : Place) (fault : ReadFault) → StandsAs path place → IsText bytes → FailsAt place bytes fault → Refused path bytes fault
-misread path bytes place fault s t r = misreading path bytes s.0 fault s.1 t (fails s.0 place bytes fault s.2 r)
+misread path bytes place fault s t r = misreading path bytes s.0 fault s.1 t (subst (λ p. FailsAt p bytes fault) s.2 r)

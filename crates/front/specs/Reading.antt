@@ -1,6 +1,6 @@
 -- What a file is, or why it is refused: the first that holds of a path where nothing may stand, a file that is too long, bytes that are
 -- no text, and the fault of the text, by what stands at the path.
-use Rattle.std.specs.Prelude.{◌≡◌, ℕ, ◌<◌, ◌≤◌, [], chars, length, Some, None}
+use Rattle.std.specs.Prelude.{◌≡◌, ◌<◌, ◌≤◌, [], chars, length, Some, None}
 use Rattle.std.specs.Arc.{arc_value}
 use Rattle.std.specs.Str.{IsUtf8}
 use Rattle.rv_names.specs.Keys.{Bytes}
@@ -11,24 +11,26 @@ use Rattle.pysa_syntax.specs.Faults.{HasModels}
 use Rattle.pysa_syntax.specs.Laws.{HasFault}
 use Rattle.taint_config.specs.Config.{ConfigParts, file_config}
 use Rattle.taint_config.specs.Faults.{file_faults, first_fault}
-use Rattle.project.specs.Paths.{kind_of_path}
+use Rattle.project.specs.Limits.{file_limit}
+use Rattle.project.specs.Paths.{kind_of_path, place_of}
 use Rattle.project.specs.declared.item.Item.{Item}
 use Rattle.project.specs.declared.item.Item.TheVariants as items
 use Rattle.project.specs.declared.path.PathKind.{PathKind}
-use Rattle.project.specs.declared.path.PathKind.TheVariants as kinds
+use Rattle.project.specs.declared.path.Place.{Place}
+use Rattle.project.specs.declared.path.Place.TheVariants as places
 use Rattle.front.specs.declared.faults.ReadFault.{ReadFault}
 use Rattle.front.specs.declared.faults.ReadFault.TheVariants as faults
 
 -- ---- paths and texts
 
+-- such a file may stand at the path
+abbrev pub StandsAs : Bytes → Place → Type 0
+StandsAs path place = (kind : PathKind) × (kind_of_path path ≡ Some kind) × (place ≡ place_of kind)
+
 -- nothing may stand at the path
 abbrev pub Misplaced : Bytes → ReadFault → Type 0
 Misplaced path faults.BadPath = kind_of_path path ≡ None
 Misplaced path _ = ⊥
-
--- the greatest number of bytes of a file, 1 MiB
-abbrev pub file_limit : ℕ
-file_limit = 1048576
 
 -- the bytes are a text that isn't too long
 pub record IsText (bytes : Bytes) : Type 0 where
@@ -66,10 +68,14 @@ abbrev pub IsConfiguration : Bytes → Item → Type 0
 IsConfiguration text (items.Config config) = IsConfigured text (arc_value config)
 IsConfiguration text _ = ⊥
 
+-- by the kind of files that may stand at the path, and by what stands there
+abbrev pub ReadsAt : Place → Bytes → Item → Type 0
+ReadsAt places.Module text item = IsPython text item
+ReadsAt places.Models text item = IsModels text item
+ReadsAt places.Config text item = IsConfiguration text item
+
 abbrev pub ReadsAs : PathKind → Bytes → Item → Type 0
-ReadsAs (kinds.Module name) text item = IsPython text item
-ReadsAs kinds.Models text item = IsModels text item
-ReadsAs kinds.Config text item = IsConfiguration text item
+ReadsAs kind = ReadsAt (place_of kind)
 
 -- ---- the one fault of a text; want of memory is none
 
@@ -85,10 +91,13 @@ abbrev pub FailsAsConfiguration : Bytes → ReadFault → Type 0
 FailsAsConfiguration text (faults.Config fault) = first_fault (file_faults text) ≡ Some fault
 FailsAsConfiguration text _ = ⊥
 
+abbrev pub FailsAt : Place → Bytes → ReadFault → Type 0
+FailsAt places.Module text fault = FailsAsPython text fault
+FailsAt places.Models text fault = FailsAsModels text fault
+FailsAt places.Config text fault = FailsAsConfiguration text fault
+
 abbrev pub FailsAs : PathKind → Bytes → ReadFault → Type 0
-FailsAs (kinds.Module name) text fault = FailsAsPython text fault
-FailsAs kinds.Models text fault = FailsAsModels text fault
-FailsAs kinds.Config text fault = FailsAsConfiguration text fault
+FailsAs kind = FailsAt (place_of kind)
 
 -- ---- files
 

@@ -33,6 +33,13 @@ pub enum ReadFault {
     Memory,
 }
 
+/// A name, and its place.
+fn write_placed<W: fmt::Write>(f: &mut fmt::Formatter<W>, at: Pos, name: &str) -> fmt::Result
+    ensures { WritesOnOk W.write_str_gives f.old result (placed at name.now) f.new }
+{
+    write!(f, "{}:{} {name}", at.line, at.col)
+}
+
 /// A form that isn't supported, and its place.
 fn write_unsupported<W: fmt::Write>(f: &mut fmt::Formatter<W>, form: Form, at: Pos) -> fmt::Result
     ensures { WritesOnOk W.write_str_gives f.old result (placed at (unsupported form)) f.new }
@@ -46,10 +53,10 @@ fn write_python_fault<W: fmt::Write>(f: &mut fmt::Formatter<W>, fault: &FileErro
     ensures { WritesOnOk W.write_str_gives f.old result (python_text fault.now) f.new }
 {
     match fault {
-        FileError::Lex(kind, at) => write!(f, "{}:{} {kind}", at.line, at.col),
-        FileError::Syntax(at) => write!(f, "{}:{} Syntax", at.line, at.col),
+        FileError::Lex(kind, at) => write_placed(f, *at, kind.name()),
+        FileError::Syntax(at) => write_placed(f, *at, "Syntax"),
         FileError::Unsupported(form, at) => write_unsupported(f, *form, *at),
-        FileError::TooDeep(at) => write!(f, "{}:{} TooDeep", at.line, at.col),
+        FileError::TooDeep(at) => write_placed(f, *at, "TooDeep"),
         FileError::Twice(name, at) => write!(f, "{}:{} Twice({name})", at.line, at.col),
         FileError::Memory => f.write_str("0:0 Memory"),
     }
@@ -60,8 +67,8 @@ fn write_models_fault<W: fmt::Write>(f: &mut fmt::Formatter<W>, fault: &ModelErr
     ensures { WritesOnOk W.write_str_gives f.old result (models_text fault.now) f.new }
 {
     match fault {
-        ModelError::Lex(kind, at) => write!(f, "{}:{} {kind}", at.line, at.col),
-        ModelError::Syntax(at) => write!(f, "{}:{} Syntax", at.line, at.col),
+        ModelError::Lex(kind, at) => write_placed(f, *at, kind.name()),
+        ModelError::Syntax(at) => write_placed(f, *at, "Syntax"),
         ModelError::Unsupported(form, at) => write_unsupported(f, *form, *at),
         ModelError::Memory => f.write_str("0:0 Memory"),
     }

@@ -2,12 +2,12 @@
 
 ghost use Rattle.std.specs.Prelude.{◌≡◌, ◌≢◌, ◌≤◌, IfOk, IfErr, length};
 ghost use Rattle.project.specs.Items.{Fits};
-ghost use Rattle.front.specs.Reading.{Accepted, FailsAsConfiguration, FailsAsModels, FailsAsPython, IsConfiguration, IsModels, IsPython, IsText, Misplaced, Refused, Unread, file_limit};
-ghost use Rattle.front.specs.Places.{FailsAt, ReadsAt, StandsAs};
+ghost use Rattle.project.specs.Limits.{file_limit};
+ghost use Rattle.front.specs.Reading.{Accepted, FailsAsConfiguration, FailsAsModels, FailsAsPython, FailsAt, IsConfiguration, IsModels, IsPython, IsText, Misplaced, ReadsAt, Refused, StandsAs, Unread};
 ghost use Rattle.front.specs.declared.faults.ReadFault.TheVariants.{Memory};
 
 use crate::faults::ReadFault;
-use project::{Item, Place, place_of_path};
+use project::{FILE_LIMIT, Item, Place, place_of_path};
 use py_lexer::Scratch;
 use py_parser::{FileError, parse_with};
 use pysa_syntax::{ModelError, read_models};
@@ -15,9 +15,6 @@ use simdutf8::basic::from_utf8;
 use std::alloc::Global;
 use std::sync::Arc;
 use taint_config::{ConfigError, read_config};
-
-/// The greatest number of bytes of a file, 1 MiB.
-const FILE_LIMIT: usize = 1_048_576;
 
 /// Which kind of file may stand at the path: `BadPath` where none may.
 fn place_at(path: &str) -> Result<Place, ReadFault>

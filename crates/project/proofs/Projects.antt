@@ -9,7 +9,8 @@ use Rattle.std.proofs.lemmas.Bool.Decides.{nat_tests}
 use Rattle.rv_names.specs.Keys.{Bytes, bytes_order}
 use Rattle.project.specs.declared.faults.Which.TheVariants as which
 use Rattle.project.specs.declared.item.Item.{Item}
-use Rattle.project.specs.Files.{AreFiles, FileMap, IsProject, file_at, first_over, files_limit, given_by_all, text_limit, text_of, with_file}
+use Rattle.project.specs.Files.{AreFiles, FileMap, IsProject, file_at, first_over, given_by_all, text_of, with_file}
+use Rattle.project.specs.Limits.{files_limit, text_limit}
 use Rattle.project.specs.Items.{FileParts, Fits}
 use Rattle.project.proofs.Given.{get_here, get_there, given_total, gone_here, gone_there, text_remove, text_total, weigh, weigh_text}
 use Rattle.project.proofs.Maps.{Entries, entries_in, files_in, files_insert, files_none, files_remove, rises, rises_insert, rises_remove, rising}
@@ -123,19 +124,17 @@ within m h = go (nat_lt files_limit (len m)) refl (nat_lt text_limit (text_of m)
 
 -- ---- a put
 
-pub put_files : (m n : FileMap) (path key : Bytes) (item : Item) (length : ℕ) (file : FileParts) → n ≡ m → key ≡ path → file ≡ file_at path item length → insert n key file ≡ with_file m path item length
-put_files m n path key item length file view key_is file_is = ap (λ z. insert z key file) view ∙ ap (λ k. insert m k file) key_is ∙ ap (insert m path) file_is
+pub put_files : (m : FileMap) (path key : Bytes) (item : Item) (length : ℕ) (file : FileParts) → key ≡ path → file ≡ file_at path item length → insert m key file ≡ with_file m path item length
+put_files m path key item length file key_is file_is = ap (λ k. insert m k file) key_is ∙ ap (insert m path) file_is
 
-pub put_project : (es : Entries) (text given : ℕ) (m : FileMap) (path key : Bytes) (item : Item) (length : ℕ) (file : FileParts) (text_after given_after : ℕ) → IsProject es text given → files_in es ≡ m → key ≡ path → file ≡ file_at path item length
-    → Fits path item → first_over (with_file m path item length) ≡ None → text_after ≡ text_of (with_file m key item length) → given_after ≡ given_by_all (insert m file.path file)
-    → IsProject (insert_entry bytes_order es key file) text_after given_after
-put_project es text given m path key item length file text_after given_after is view key_is file_is fits none t g =
-    let same = put_files m (files_in es) path key item length file view key_is file_is in
-    let bounds = within (with_file m path item length) none in
-    project_put es key file text given text_after given_after is
-    (key_is ∙ sym (ap (λ f. f.path) file_is))
-    (subst (λ f. Fits f.path f.item) (sym file_is) fits)
+pub put_project : (es : Entries) (text given : ℕ) (m : FileMap) (path : Bytes) (file : FileParts) (text_after given_after : ℕ) → IsProject es text given → files_in es ≡ m → path ≡ file.path → Fits file.path file.item
+    → first_over (insert m path file) ≡ None → text_after ≡ text_of (insert m path file) → given_after ≡ given_by_all (insert m file.path file)
+    → IsProject (insert_entry bytes_order es path file) text_after given_after
+put_project es text given m path file text_after given_after is view at fits none t g =
+    let same = ap (λ z. insert z path file) view in
+    let bounds = within (insert m path file) none in
+    project_put es path file text given text_after given_after is at fits
     (subst (λ z. len z ≤ files_limit) (sym same) bounds.0)
     (subst (λ z. text_of z ≤ text_limit) (sym same) bounds.1)
-    (t ∙ ap (λ k. text_of (with_file m k item length)) key_is ∙ sym (ap text_of same))
-    (g ∙ ap (λ f. given_by_all (insert m f.path f)) file_is ∙ sym (ap given_by_all same))
+    (t ∙ sym (ap text_of same))
+    (g ∙ ap (λ k. given_by_all (insert m k file)) (sym at) ∙ sym (ap given_by_all same))

@@ -8,7 +8,8 @@ use Rattle.std.proofs.lemmas.Bool.Decides.{nat_tests}
 use Rattle.rv_names.specs.Keys.{Bytes, bytes_order}
 use Rattle.project.specs.declared.faults.Which.TheVariants as which
 use Rattle.project.specs.Callables.{capped, item_callables}
-use Rattle.project.specs.Files.{AreFiles, FileMap, IsProject, first_over, first_past, given_by, given_by_all, has_room, is_hidden, text_limit, text_of}
+use Rattle.project.specs.Files.{AreFiles, FileMap, IsProject, first_over, first_past, given_by, given_by_all, has_room, is_hidden, text_of}
+use Rattle.project.specs.Limits.{text_limit}
 use Rattle.project.specs.Items.{FileParts}
 use Rattle.project.specs.Modules.{callables_in}
 use Rattle.project.specs.Sums.{beneath, replaced, text_at}

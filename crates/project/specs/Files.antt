@@ -10,6 +10,7 @@ use Rattle.project.specs.declared.neighbour.Neighbour.{Neighbour}
 use Rattle.project.specs.declared.neighbour.Neighbour.TheVariants.{Nobody, Hider, Hidden}
 use Rattle.project.specs.Callables.{capped, item_callables}
 use Rattle.project.specs.Items.{FileParts, Fits}
+use Rattle.project.specs.Limits.{files_limit, text_limit}
 use Rattle.project.specs.Paths.{neighbour_of}
 
 abbrev pub FileMap : Type 0
@@ -29,12 +30,6 @@ abbrev pub with_file : FileMap → Bytes → Item → ℕ → FileMap
 with_file files path item len = insert files path (file_at path item len)
 
 -- ---- limits
-
-abbrev pub files_limit : ℕ
-files_limit = 4096
-
-abbrev pub text_limit : ℕ
-text_limit = 33554432
 
 -- the bytes of all texts
 unfoldable pub text_of : FileMap → ℕ

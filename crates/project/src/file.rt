@@ -9,6 +9,7 @@ ghost use Rattle.project.specs.Paths.{neighbour_of};
 
 use crate::item::Item;
 use crate::neighbour::{Neighbour, neighbour_at};
+use crate::together::{all_three, as_memory, both};
 use rv_names::{Memory, Text};
 use std::alloc::{AllocError, Global};
 use std::marker::Model;
@@ -59,6 +60,20 @@ impl File {
             callables,
             neighbour,
         })
+    }
+
+    /// What `new` gives of the same path and item, which it shares.
+    pub(crate) fn shared(
+        alloc: Global,
+        path: &Text,
+        item: &Arc<Item>,
+        len: u32,
+    ) -> Result<File, Memory>
+        requires { Fits path.now (arc_value item.now) }
+        ensures { IfOk result (λ f. f ≡ file_at path.now (arc_value item.now) len) }
+    {
+        let (path, item) = both(path.copy(), as_memory(Arc::try_clone(item)))?;
+        File::new(alloc, path, item, len)
     }
 
     /// Its path.
@@ -112,9 +127,11 @@ impl File {
     pub fn copy(&self) -> Result<File, Memory>
         ensures { IfOk result (λ f. f ≡ self.now) }
     {
-        let path = self.path.copy()?;
-        let item = Arc::try_clone(&self.item)?;
-        let neighbour = self.neighbour.copy()?;
+        let (path, item, neighbour) = all_three(
+            self.path.copy(),
+            as_memory(Arc::try_clone(&self.item)),
+            self.neighbour.copy(),
+        )?;
         Ok(File {
             path,
             item,

@@ -1,6 +1,6 @@
 //! The live files of a project.
 
-ghost use Rattle.std.specs.Prelude.{◌≡◌, ◌≤◌, ◌↔◌, Some, Err, IfOk, OnOk, OnErr, IsTrue, false, nat_le};
+ghost use Rattle.std.specs.Prelude.{◌≡◌, ◌≤◌, ◌↔◌, Some, None, Err, IfOk, OnOk, OnErr, IsTrue, false, nat_le};
 ghost use Rattle.std.specs.Arc.{arc_value};
 ghost use Rattle.std.specs.Option.{option_copied};
 ghost use Rattle.std.specs.FinMap.{contains_key, empty, entries, get, insert, len, remove};
@@ -16,8 +16,11 @@ ghost use Rattle.project.specs.Sums.{beneath};
 use crate::faults::{FilesError, Which};
 use crate::file::File;
 use crate::item::Item;
+use crate::limits::{FILES_LIMIT, TEXT_LIMIT};
+use crate::live::{placed, taken};
 use crate::neighbour::Neighbour;
-use crate::sums::{FILES_LIMIT, TEXT_LIMIT, first_past, replaced, shown, text_at};
+use crate::sums::{first_past, gone, replaced, shown};
+use crate::together::both;
 use rv_names::{Memory, Text};
 use std::alloc::Global;
 use std::collections::BTreeMap;
@@ -155,15 +158,28 @@ impl Files {
         if let Some(which) = self.over_with(&path, len) {
             return Err(FilesError::Full(which));
         }
-        let key = path.copy()?;
-        let file = File::new(self.alloc, path, item, len)?;
+        let key = path.copy();
+        let (key, file) = both(key, File::new(self.alloc, path, item, len))?;
+        Ok(self.put_file(key, file)?)
+    }
+
+    // Puts a file at its path, where that passes no limit.
+    fn put_file(&mut self, path: Text, file: File) -> Result<(), Memory>
+        requires path { path ≡ file.path }
+        requires fits { Fits file.path file.item }
+        requires within { first_over (insert self.old path file) ≡ None }
+        ensures files { OnOk result (self.new ≡ insert self.old path file) }
+        ensures err { OnErr result (self.new ≡ self.old) }
+    {
         let hidden = self.is_hidden(&file);
         let beneath = self.beneath(&file);
-        let more = self.given + shown(hidden, &file);
+        let text = self.text + file.len() as u64;
+        let given = self.given + shown(hidden, &file);
         let packages = self.packages | file.hides();
-        let old = self.live.insert(key, file)?;
-        self.text = self.text + len as u64 - text_at(old.as_ref());
-        self.given = more - replaced(hidden, beneath, old.as_ref());
+        let old = placed(&mut self.live, path, file)?;
+        let (old_text, old_given) = gone(hidden, beneath, old);
+        self.text = text - old_text;
+        self.given = given - old_given;
         self.packages = packages;
         Ok(())
     }
@@ -177,10 +193,10 @@ impl Files {
     {
         let text = self.text_without(path);
         let given = self.given_without(path);
-        let dropped = self.live.remove(path);
+        let dropped = taken(&mut self.live, path);
         self.text = text;
         self.given = given;
-        dropped.is_some()
+        dropped
     }
 
     /// How many callables the modules have, and at most the greatest `u32`: one for the top level of each, one for each function, and
@@ -196,7 +212,7 @@ impl Files {
         requires fits { Fits path.now (arc_value item.now) }
         ensures { IfOk result (λ count. count ≡ capped (callables_in (with_file self.now path.now (arc_value item.now) len))) }
     {
-        let file = File::new(self.alloc, path.copy()?, Arc::try_clone(item)?, len)?;
+        let file = File::shared(self.alloc, path, item, len)?;
         Ok(self.given_with(&file).min(u32::MAX as u64) as u32)
     }
 

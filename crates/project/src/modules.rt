@@ -8,6 +8,7 @@ use crate::file::File;
 use crate::files::Files;
 use crate::item::Item;
 use crate::path::module_at;
+use crate::together::{all_three, as_memory};
 use py_ast::{Modules, Parsed};
 use rv_names::{Memory, QName, Text};
 use std::alloc::Global;
@@ -39,10 +40,8 @@ impl Files {
         }
         match &**file.item() {
             Item::Module(parsed) => {
-                let name = name_at(alloc, path)?;
-                let path = path.copy()?;
-                let parsed = Arc::try_clone(parsed)?;
-                Ok(Some((name, path, parsed)))
+                let parsed = as_memory(Arc::try_clone(parsed));
+                Ok(Some(all_three(name_at(alloc, path), path.copy(), parsed)?))
             }
             Item::Models(_) => Ok(None),
             Item::Config(_) => Ok(None),

@@ -1,6 +1,6 @@
 //! What stands at a path.
 
-ghost use Rattle.std.specs.Prelude.{◌≡◌, ◌==◌, IfOk, if◌then◌else◌, Some, None, option_map};
+ghost use Rattle.std.specs.Prelude.{◌≡◌, ◌==◌, ◌++◌, ◌∷◌, [], true, IfOk, if◌then◌else◌, Some, None, option_map};
 ghost use Rattle.std.specs.List.{list_all};
 ghost use Rattle.taint_config.specs.Kinds.{continues_kind, is_ascii_identifier};
 ghost use Rattle.project.specs.Paths.{is_package, kind_of_path, module_at, module_name, names_in, place_of, segments};
@@ -62,6 +62,20 @@ fn ascii_name(alloc: Global, text: &str) -> Result<Option<Name>, Memory>
     }
 }
 
+/// Pushes the text as a name, where it is an identifier within ASCII: whether it is one.
+fn push_name(alloc: Global, names: &mut Vec<Name>, text: &str) -> Result<bool, Memory>
+    ensures is { IfOk result (λ is. is ≡ is_ascii_identifier text.now) }
+    ensures pushed { IfOk result (λ is. is ≡ true → names.new.items ≡ names.old.items ++ text.now ∷ []) }
+{
+    match ascii_name(alloc, text)? {
+        None => Ok(false),
+        Some(name) => {
+            names.push(name)?;
+            Ok(true)
+        }
+    }
+}
+
 /// What stands between the slashes of a path, where each is an identifier within ASCII.
 fn names_in(alloc: Global, path: &str) -> Result<Option<Vec<Name>>, Memory>
     ensures { IfOk result (λ o. option_map (λ v. v.items) o ≡ names_in path.now) }
@@ -69,18 +83,15 @@ fn names_in(alloc: Global, path: &str) -> Result<Option<Vec<Name>>, Memory>
     let mut names = Vec::new(alloc);
     let mut rest = path;
     'each_name: while let Some((first, more)) = rest.split_once('/') {
-        match ascii_name(alloc, first)? {
-            None => return Ok(None),
-            Some(name) => names.push(name)?,
+        if !push_name(alloc, &mut names, first)? {
+            return Ok(None);
         }
         rest = more;
     }
-    match ascii_name(alloc, rest)? {
-        None => Ok(None),
-        Some(name) => {
-            names.push(name)?;
-            Ok(Some(names))
-        }
+    if push_name(alloc, &mut names, rest)? {
+        Ok(Some(names))
+    } else {
+        Ok(None)
     }
 }
 

@@ -8,12 +8,7 @@ ghost use Rattle.project.specs.Sums.{replaced, text_at};
 
 use crate::faults::Which;
 use crate::file::File;
-
-/// The greatest number of live files.
-pub const FILES_LIMIT: usize = 4096;
-
-/// The greatest number of bytes of all live texts.
-pub const TEXT_LIMIT: u64 = 33_554_432;
+use crate::limits::{FILES_LIMIT, TEXT_LIMIT};
 
 /// The first of the counts of files and of text that is past its limit.
 pub fn first_past(files: usize, text: u64) -> Option<Which>
@@ -54,4 +49,13 @@ pub fn replaced(hidden: bool, beneath: u64, old: Option<&File>) -> u64
         None => beneath,
         Some(old) => shown(hidden, old),
     }
+}
+
+/// The bytes of the text and the callables that go as a file is put, by the one that stood at its path.
+pub fn gone(hidden: bool, beneath: u64, old: Option<File>) -> (u64, u64)
+    ensures text { result.0 ≡ text_at old }
+    ensures given { result.1 ≡ replaced hidden beneath old }
+{
+    let old = old.as_ref();
+    (text_at(old), replaced(hidden, beneath, old))
 }

@@ -4,7 +4,7 @@ use Rattle.rv_names.specs.Keys.{Bytes}
 use Rattle.project.specs.Paths.{kind_of_path, place_of}
 use Rattle.project.specs.declared.path.PathKind.{PathKind}
 use Rattle.project.specs.declared.path.Place.{Place}
-use Rattle.front.specs.Places.{StandsAs}
+use Rattle.front.specs.Reading.{StandsAs}
 use Rattle.front.proofs.reading.place_at.Goals as goal
 
 stands : (path : Bytes) (place : Place) (o : Option PathKind) → kind_of_path path ≡ o → Some place ≡ option_map place_of o → StandsAs path place

@@ -1,7 +1,8 @@
 use Rattle.std.proofs.Common.{◌+◌, ◌≤◌, ◌<◌, sym, ap, ◌∙◌, subst}
 use Rattle.std.specs.Prelude.{nat_le, ◌&&◌}
 use Rattle.std.specs.FinMap.{len}
-use Rattle.project.specs.Files.{text_limit, text_of}
+use Rattle.project.specs.Files.{text_of}
+use Rattle.project.specs.Limits.{text_limit}
 use Rattle.project.proofs.Maps.{length_in, rises}
 use Rattle.project.proofs.Steps.{is_fewer, is_many}
 use Rattle.project.proofs.files.Files.has_room.Goals as goal
