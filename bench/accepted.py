@@ -24,7 +24,7 @@ REVIEW = os.path.join(os.path.dirname(os.path.abspath(__file__)), "..", "review"
 SHOWN = 10
 GROUPS = ("whole files", "functions", "methods")
 # What one stream may have, so that an unproved run takes it and writes what it answers.
-TEXTS, BYTES = 20_000, 48 << 20
+TEXTS, BYTES = 20_000, 32 << 20
 FUNCTIONS = (ast.FunctionDef, ast.AsyncFunctionDef)
 
 

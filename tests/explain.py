@@ -119,8 +119,8 @@ FAULTS = {
 S, K, R = {"name": "S"}, {"name": "K"}, {"name": "r", "code": 1, "sources": ["S"], "sinks": ["K"], "message_format": "m"}
 
 
-def config(sources=None, sinks=None, rules=None, **more):
-    return {"sources": [S] if sources is None else sources, "sinks": [K] if sinks is None else sinks, "rules": [R] if rules is None else rules, **more}
+def config(**other):
+    return {"sources": [S], "sinks": [K], "rules": [R], **other}
 
 
 # A configuration, its fault, and what the sentence must name.
@@ -198,6 +198,8 @@ def by_pack(folder):
         fail("lines don't go through:", lines)
     if lines[2:5] != ["    \té = '€'; y = 1.5", "    \t" + " " * 13 + "^", "  " + explain.FORMS["float"]]:
         fail("no caret below the number:", lines[2:5])
+    if lines[-2] != "  of the files that are kept; 3 refused before, of which nothing is said":
+        fail("issues beside refusals:", lines[-3:])
     if "no JSON" not in lines[6] or "none of the files" not in lines[8] or (done.returncode, done.stderr) != (0, b""):
         fail("what isn't there:", lines[5:], done.stderr)
     if len(explain.show("x" * 1000, 900).split("\n")[1].rstrip("^")) > explain.WIDEST:

@@ -130,7 +130,9 @@ def proved(script, source):
     status, out, said = start(script, "--proved", "check", given=b"x\n")
     expect("proved", (status, out), (8, b"x\n"))
     steps = [re.sub(r"\d+ min \d\d s", "TIME", line) for line in said]
-    expect("progress", (len(steps), steps[1:]), (4, ["review: 1 of 2, toy_status, after TIME", "review: 2 of 2, review, after TIME", "review: built after TIME"]))
+    expect("progress", len(steps), 4)
+    expect("each crate", steps[1:3], ["review: 1 of 2, toy_status, after TIME", "review: 2 of 2, review, after TIME"])
+    expect("the end", steps[3], "review: built after TIME")
     expect("used where it lies", start(script, "check", given=b"y\n"), (8, b"y\n", []))
     expect("also by --proved", start(script, "--proved", "check", given=b"z\n"), (8, b"z\n", []))
     expect("its own words", start(script), (2, b"usage: review check\n", []))

@@ -9,17 +9,17 @@ import sys
 import tempfile
 
 TOOL = os.path.join(os.path.dirname(os.path.abspath(__file__)), "..", "tools", "pack.py")
+OWN = {key: value for key, value in os.environ.items() if not key.startswith("GIT_")}  # a hook's words about its repository left out
 SECONDS = 60  # far more than any of these packings takes; one that waits for a pipe never ends
 
 
 def pack(folder, *words, path=None):
     """Status, standard output, and the lines of standard error."""
-    environment = dict(os.environ, GIT_CEILING_DIRECTORIES=folder)
+    environment = dict(OWN, GIT_CEILING_DIRECTORIES=folder)
     if path is not None:
         environment["PATH"] = path
-    done = subprocess.run(
-        [sys.executable, TOOL, *words], cwd=folder, env=environment, stdin=subprocess.DEVNULL, capture_output=True, check=False, timeout=SECONDS
-    )
+    how = {"cwd": folder, "env": environment, "stdin": subprocess.DEVNULL, "capture_output": True, "check": False, "timeout": SECONDS}
+    done = subprocess.run([sys.executable, TOOL, *words], **how)
     return done.returncode, done.stdout, done.stderr.decode().splitlines()
 
 
@@ -63,7 +63,8 @@ def order_and_names(folder):
            ["1 hidden or of a tool", "1 no module", "1 of another kind", "1 path refused", "1 too large"])
     status, out, said = pack(folder, "p/b.py", os.path.join(folder, "p", "b.py"), "p/none.py")
     expect("files", out, b"put b.py 6\nx = 1\n\nput p/b.py 6\nx = 1\n\nend\n")
-    expect("missing file is named", said, ["pack: left out p/none.py: no such file or folder", "pack: packed 2 files, left out 1: 1 not there"])
+    expect("missing file is named", said[:-1], ["pack: left out p/none.py: no such file or folder"])
+    expect("and counted", said[-1], "pack: packed 2 files, left out 1: 1 not there")
     expect("nothing", pack(folder, "p/notes.txt")[0:2], (1, b"end\n"))
     expect("no words", pack(folder)[0:2], (2, b""))
     expect("unknown words", pack(folder, "--exlude", "x", "p")[0:2], (2, b""))
@@ -162,8 +163,8 @@ def repositories(folder):
     for path in ("g/a.py", "g/build/made.py", "g/sub/b.py", "g/sub/scratch.py", "g/sub/kept_scratch.py"):
         write(folder, path)
     write(folder, "g/.gitignore", b"/build/\n*scratch.py\n")
-    subprocess.run([*git[:3], "init", "-q"], check=True)
-    subprocess.run([*git, "add", "-f", "sub/kept_scratch.py"], check=True)
+    subprocess.run([*git[:3], "init", "-q"], env=OWN, check=True)
+    subprocess.run([*git, "add", "-f", "sub/kept_scratch.py"], env=OWN, check=True)
     status, out, said = pack(folder, "g")
     expect("ignored by git", (status, puts(out)), (0, ["a.py", "sub/b.py", "sub/kept_scratch.py"]))
     expect("what is ignored is named", [line for line in said if "git" in line and ".git" not in line][:-1], [
@@ -172,6 +173,9 @@ def repositories(folder):
     ])
     expect("a folder of a repository", puts(pack(folder, "g/sub")[1]), ["b.py", "kept_scratch.py"])
     expect("an ignored folder that is named", puts(pack(folder, "g/build")[1]), ["made.py"])
+    OWN["GIT_DIR"] = os.path.join(folder, "elsewhere")
+    expect("within a hook", puts(pack(folder, "g")[1]), ["a.py", "sub/b.py", "sub/kept_scratch.py"])
+    del OWN["GIT_DIR"]
     os.mkdir(os.path.join(folder, "empty"))
     without = pack(folder, "g", path=os.path.join(folder, "empty"))
     expect("without git", puts(without[1]), ["a.py", "build/made.py", "sub/b.py", "sub/kept_scratch.py", "sub/scratch.py"])

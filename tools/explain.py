@@ -65,6 +65,8 @@ MODEL_FORMS = {
     "ModelQuery": "a query that makes models; write the models that it would make, one by one",
 }
 
+LACKING = r"(Sanitize|AttachTo|AddFeatureTo|CrossRepositoryTaint)\w*"
+
 # Forms of model files that are Syntax: what stands before the place, what stands at it, and the sentence.
 MODEL_SYNTAX = [
     (r"\A\s*\Z", r"class\b", "a model of a class; write one model for each method, as `def a.B.f(self, x: TaintSink[K]): ...`"),
@@ -84,9 +86,9 @@ MODEL_SYNTAX = [
     (r"(\]|TaintInTaintOut)\s*\Z", r"\|", "marks joined by `|`; write `Union[.., ..]`"),
     (r"->.*(\]|TaintInTaintOut)\s*\Z", r",", "several marks of a result; write `Union[.., ..]`"),
     (r"=\s*\Z", r"", "a value; write `...` in its place"),
-    (r"->\s*\Z", r"(Sanitize|AttachTo|AddFeatureTo|CrossRepositoryTaint)\w*", "an annotation that the profile lacks; leave it out with its `->`"),
+    (r"->\s*\Z", LACKING, "an annotation that the profile lacks; leave it out with its `->`"),
     (r"->\s*\Z", r"", "the type of a result; leave it out with its `->`: only marks stand there"),
-    (r"\(.*:\s*\Z", r"(Sanitize|AttachTo|AddFeatureTo|CrossRepositoryTaint)\w*", "an annotation that the profile lacks; leave it out with its `:`"),
+    (r"\(.*:\s*\Z", LACKING, "an annotation that the profile lacks; leave it out with its `:`"),
     (r"\)\s*(->.*)?:\s*\Z", r"\Z", "a body on a line of its own; write `...` behind the `:`"),
     (r"\)\s*(->.*)?:\s*\Z", r"", "a body; write `...`"),
     (r"\(.*:\s*\Z", r"", "the type of a parameter; leave it out with its `:`: only marks stand there"),
@@ -124,7 +126,7 @@ FAULTS = {
 }
 
 OTHERS = {
-    "not yet": "the files are read as far as no line refuses them; they aren't analysed yet, but where they have the cut form",
+    "not yet": "the files that no line refuses are read, and not analysed: today only the cut form is (docs/SPECIFICATION.md, 2)",
     "full journal": "too many edits, or too much text, in one stream; begin a new one",
     "full files": "more than 4,096 files; pack a part of the project",
     "full text": "more than 32 MiB of files; pack a part of the project",
@@ -235,10 +237,12 @@ def rule_kinds_faults(config, where, item, key):
     names = item.get(key)
     if isinstance(names, list):
         known = kinds_in(config, key)
-        yield from (("WrongType", f'{where}: the key "{key}" wants names, and not {json.dumps(one)[:60]}') for one in names if not is_text(one))
+        for one in names:
+            if not is_text(one):
+                yield "WrongType", f'{where}: the key "{key}" wants names, and not {json.dumps(one)[:60]}'
         for one in names:
             if is_text(one) and one not in known:
-                yield "UnknownKind", f'{where}: the kind {one} of its key "{key}" stands in no item of "{key}"; declare it there, or mend the name'
+                yield "UnknownKind", f'{where}: its key "{key}" has the kind {one}, unknown to "{key}"; declare it there, or mend it'
 
 
 def rule_faults(config):
@@ -327,12 +331,16 @@ def refusal(found, files):
 
 def explain(answers, out, files):
     """Writes the lines of `answers` to `out`, and behind each that refuses or ends without an answer what it is about."""
+    refused = 0
     for line in answers:
         line = line.decode("utf-8", "replace").rstrip("\n")
         out.write(line + "\n")
         found = REFUSED.match(line)
         if found:
+            refused += 1
             out.write(refusal(found, files))
+        elif line.startswith("issues ") and refused:
+            out.write(f"  of the files that are kept; {refused} refused before, of which nothing is said\n")
         elif line in OTHERS:
             out.write(f"  {OTHERS[line]}\n")
         out.flush()

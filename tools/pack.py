@@ -58,7 +58,8 @@ class LeftOut:
 
     def summary(self, packed):
         by_reason = ", ".join(f"{count} {reason}" for reason, count in self.counts.most_common())
-        self.say(f"packed {packed} {'file' if packed == 1 else 'files'}, left out {sum(self.counts.values())}" + (by_reason and f": {by_reason}"))
+        files = "1 file" if packed == 1 else f"{packed} files"
+        self.say(f"packed {files}, left out {sum(self.counts.values())}" + (by_reason and f": {by_reason}"))
 
 
 def shown(path):
@@ -114,12 +115,17 @@ def ignored_by_git(folder, left_out):
         return set()
     # The folder may be anyone's: nothing that its configuration names is run.
     git = ["git", "-c", "core.fsmonitor=false", "-C", folder]
-    how = {"stdin": subprocess.DEVNULL, "stdout": subprocess.PIPE, "stderr": subprocess.DEVNULL, "check": False}
-    if subprocess.run([*git, "rev-parse", "--is-inside-work-tree"], **how).stdout != b"true\n":
+    # Within a hook these name the repository of the hook.
+    own = {key: value for key, value in os.environ.items() if key not in ("GIT_DIR", "GIT_WORK_TREE", "GIT_INDEX_FILE", "GIT_PREFIX")}
+    how = {"stdin": subprocess.DEVNULL, "capture_output": True, "check": False, "env": {**own, "GIT_OPTIONAL_LOCKS": "0", "LC_ALL": "C"}}
+    asked = subprocess.run([*git, "rev-parse", "--is-inside-work-tree"], **how)
+    if asked.stdout != b"true\n":
+        if b"dubious ownership" in asked.stderr:
+            left_out.say(f"git doesn't read {shown(folder)}, which is someone else's (safe.directory), so nothing is left out as ignored")
         return set()
     listed = subprocess.run([*git, "ls-files", "-z", "--others", "--ignored", "--exclude-standard", "--directory"], **how)
     if listed.returncode != 0:
-        left_out.say(f"git doesn't say what it ignores in {shown(folder)}, so nothing is left out for that")
+        left_out.say(f"git doesn't say what it ignores in {shown(folder)}, so nothing is left out as ignored")
         return set()
     paths = {os.fsdecode(path).rstrip("/") for path in listed.stdout.split(b"\0") if path}
     # The folder itself may be ignored where it lies; it was named all the same.
