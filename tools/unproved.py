@@ -36,7 +36,7 @@ def say(line):
 
 
 def take_input(name, words, kept):
-    """Copies standard input to a file, from its beginning; None where there is too much."""
+    """Copies standard input to a file, from its beginning, and gives its size; None where there is too much, or it can't be read."""
     if sys.stdin is None:
         return 0
     if sys.stdin.isatty():
@@ -51,7 +51,11 @@ def take_input(name, words, kept):
         if patience is not None and not select.select([0], [], [], patience)[0]:
             say(f"{name}: waiting for the end of standard input, where the unproved run starts; a live session wants ./{name} --proved")
             patience = None
-        piece = os.read(0, PIECE)
+        try:
+            piece = os.read(0, PIECE)
+        except OSError as error:
+            say(f"{name}: standard input can't be read: {error.strerror}")
+            return None
         size += len(piece)
         if size > LARGEST_INPUT:
             say(f"{name}: standard input has more than {LARGEST_INPUT >> 20} MiB, the limit of an unproved run; ./{name} --proved takes it")
