@@ -85,7 +85,8 @@ def streams(found):
 def answers(row):
     """What `review check` answers to each text of a stream."""
     script = b"".join(b"put app.py %d\n%s\n" % (len(data), data) for _, data in row) + b"end\n"
-    done = subprocess.run([REVIEW, "check"], input=script, stdout=subprocess.PIPE, check=False)
+    # An unproved run, which is checked as it goes, may want more than its minute.
+    done = subprocess.run([REVIEW, "check"], input=script, stdout=subprocess.PIPE, check=False, env={"RT_SECONDS": "600", **os.environ})
     lines = done.stdout.decode().splitlines()
     if len(lines) != len(row) + 1:
         raise ValueError(f"review ended with status {done.returncode} after {len(lines)} of {len(row) + 1} lines")
