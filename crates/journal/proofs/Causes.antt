@@ -9,7 +9,8 @@ use Rattle.rv_names.specs.Keys.{Bytes}
 use Rattle.project.specs.declared.faults.Which.{Which}
 use Rattle.project.specs.declared.faults.Which.TheVariants as which
 use Rattle.project.specs.Callables.{callables, capped}
-use Rattle.project.specs.Files.{AreFiles, FileMap, files_limit, first_over, text_limit, text_of, with_file}
+use Rattle.project.specs.Files.{AreFiles, FileMap, first_over, text_of, with_file}
+use Rattle.project.specs.Limits.{callables_limit, edits_limit, files_limit, kept_limit, text_limit}
 use Rattle.project.specs.Items.{FileParts}
 use Rattle.project.specs.Modules.{Placed, callables_in, module_in}
 use Rattle.project.proofs.Maps.{entries_view, files_none}
@@ -18,7 +19,7 @@ use Rattle.journal.specs.declared.edit.ReadEdit.{ReadEdit}
 use Rattle.journal.specs.declared.edit.ReadEdit.TheVariants as edits
 use Rattle.journal.specs.declared.faults.EditFault.{EditFault}
 use Rattle.journal.specs.declared.faults.EditFault.TheVariants.{JournalFull, NotThere, ProjectFull}
-use Rattle.journal.specs.Journal.{JournalParts, callables_limit, edit_fault, edited, edits_limit, is_absent, is_full, kept_by, kept_limit, many_callables, or_else, over}
+use Rattle.journal.specs.Journal.{JournalParts, edit_fault, edited, is_absent, is_full, kept_by, many_callables, or_else, over}
 
 -- ---- the steps of a test in order
 

@@ -7,6 +7,7 @@ use Rattle.project.specs.declared.faults.Which.{Which}
 use Rattle.project.specs.declared.faults.Which.TheVariants.{Callables}
 use Rattle.project.specs.Files.{FileMap, first_over, with_file}
 use Rattle.project.specs.Items.{Fits}
+use Rattle.project.specs.Limits.{callables_limit, edits_limit, kept_limit}
 use Rattle.project.specs.Modules.{callables_in}
 use Rattle.journal.specs.declared.edit.ReadEdit.{ReadEdit}
 use Rattle.journal.specs.declared.edit.ReadEdit.TheVariants.{Put, Drop}
@@ -17,17 +18,6 @@ pub record JournalParts : Type 0 where
   pub files : FileMap
   pub number : ℕ
   pub kept : ℕ
-
--- ---- limits
-
-abbrev pub edits_limit : ℕ
-edits_limit = 65536
-
-abbrev pub kept_limit : ℕ
-kept_limit = 67108864
-
-abbrev pub callables_limit : ℕ
-callables_limit = 65535
 
 -- ---- an edit
 

@@ -11,20 +11,11 @@ ghost use Rattle.journal.specs.Journal.{FitsEdit, after, edit_fault, is_full};
 
 use crate::edit::ReadEdit;
 use crate::faults::EditFault;
-use project::{Files, FilesError, Item, Which};
+use project::{CALLABLES_LIMIT, EDITS_LIMIT, Files, FilesError, Item, KEPT_LIMIT, Which};
 use rv_names::{Memory, Text};
 use std::alloc::Global;
 use std::marker::Model;
 use std::sync::Arc;
-
-/// The greatest number of edits.
-const EDITS_LIMIT: u32 = 65_536;
-
-/// The greatest number of bytes of all texts that were put.
-const KEPT_LIMIT: u64 = 67_108_864;
-
-/// The greatest number of callables.
-const CALLABLES_LIMIT: u32 = 65_535;
 
 /// The files that edits left, how many edits there were, and the bytes of all texts that were put. There are at most 65,536 edits,
 /// 64 MiB of such texts, and 65,535 callables.
