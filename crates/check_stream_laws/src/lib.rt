@@ -1,4 +1,6 @@
 //! A check of a command stream has one end: what it writes and its status are determined by its input.
+//!
+//! * `laws`: the laws, as the contracts of functions.
 #![tactic(auto)]
 
 mod laws;

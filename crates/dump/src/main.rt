@@ -8,6 +8,9 @@
 //! it declares of each of its names, and prints how many models, names, leaves and notes there are. `chain N`, `diamond N` and `loop N` read nothing, solve
 //! a system of rows of that shape and about that many rows, and print how many of its nodes a source reaches. Other words give the
 //! usage line and status 2.
+//!
+//! * `commands`, `tokens`, `trees`, `statements`, `scopes`, `models`, `systems`: what each word prints;
+//! * `reading`: standard input, as a text.
 #![tactic(auto)]
 
 ghost use Rattle.std.specs.Prelude.{◌≤◌, ◌<◌, ◌^◌, length, IfSome};

@@ -1,4 +1,6 @@
 //! What holds of each file: it is one item, or else it has one fault.
+//!
+//! * `laws`: the laws, as the contracts of functions.
 #![tactic(auto)]
 
 mod laws;

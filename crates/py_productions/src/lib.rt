@@ -1,4 +1,6 @@
 //! The grammar of Python files as the subset's productions write it, and what is read by left-factored phrases: they spell the same.
+//!
+//! * `laws`: the laws, as the contracts of functions.
 #![tactic(auto)]
 
 mod laws;

@@ -1,5 +1,7 @@
 //! The taint reviewer for Python. The words `check` read a command stream from standard input, act on each command, and
 //! write the issues of its files to standard output.
+//!
+//! * `calls`: the words, and what each of them calls.
 #![tactic(auto)]
 
 mod calls;
