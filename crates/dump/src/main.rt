@@ -9,8 +9,8 @@
 //! a system of rows of that shape and about that many rows, and print how many of its nodes a source reaches. Other words give the
 //! usage line and status 2.
 //!
-//! * `commands`, `tokens`, `trees`, `statements`, `scopes`, `models`, `systems`: what each word prints;
-//! * `reading`: standard input, as a text.
+//! * `commands`, `tokens`, `scopes`, `models`, `systems`: what these words print; `trees`, `statements`: the lines of trees;
+//! * `reading`: the tree of a file or of an expression, or its fault.
 #![tactic(auto)]
 
 ghost use Rattle.std.specs.Prelude.{◌≤◌, ◌<◌, ◌^◌, length, IfSome};
