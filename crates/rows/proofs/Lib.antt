@@ -6,4 +6,5 @@ pub mod Turns
 pub mod Gifts
 pub mod Monotony
 pub mod Edits
+pub mod CoreSteps
 pub mod Putters

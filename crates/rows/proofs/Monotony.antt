@@ -44,6 +44,12 @@ solves_reading I J F (r ∷ rows) l s = (
   solves_reading I J F rows (record { of = λ k p w. l.of k p (inr w); puts = λ h c w. l.puts h c (inr w) }) s.1,
 )
 
+pub where_refl : (rows : List Row) (I : InputTrees) → LessWhereRead rows I I
+where_refl rows I = record { of = λ k p w. below_refl (I.of k p); puts = λ h c w. below_refl (I.puts h c) }
+
+pub where_trans : (rows : List Row) (I J K : InputTrees) → LessWhereRead rows I J → LessWhereRead rows J K → LessWhereRead rows I K
+where_trans rows I J K a b = record { of = λ k p w. below_trans (a.of k p w) (b.of k p w); puts = λ h c w. below_trans (a.puts h c w) (b.puts h c w) }
+
 pub solves_for_less : (I J : InputTrees) (F : Family) (rows : List Row) → Less I J → Solves J F rows → Solves I F rows
 solves_for_less I J F rows l s = solves_reading I J F rows (record { of = λ k p w. l.of k p; puts = λ h c w. l.puts h c }) s
 
@@ -88,11 +94,21 @@ callee_less : (M N : Families) (o : Option ℕ) (p : Place) → ((f : ℕ) → o
 callee_less M N None p h = below_refl empty
 callee_less M N (Some f) p h = h f refl
 
-pub body_reading : (b : Body) (M N : Families) (T : Family) → ((f : ℕ) (p : Place) → Reads b f p → Below (M f p) (N f p)) → Solves (inputs_of b N) T b.rows → Solves (inputs_of b M) T b.rows
-body_reading b M N T h s = solves_reading (inputs_of b M) (inputs_of b N) T b.rows (record {
+pub less_of : (b : Body) (M N : Families) → ((f : ℕ) (p : Place) → Reads b f p → Below (M f p) (N f p)) → LessWhereRead b.rows (inputs_of b M) (inputs_of b N)
+less_of b M N h = record {
   of = λ k p w. callee_less M N _ p (λ f e. h f p (inl (record { position = k; callee = e; reads = w })));
   puts = λ f c w. h f (Put c) (inr w);
-}) s
+}
+
+pub body_reading : (b : Body) (M N : Families) (T : Family) → ((f : ℕ) (p : Place) → Reads b f p → Below (M f p) (N f p)) → Solves (inputs_of b N) T b.rows → Solves (inputs_of b M) T b.rows
+body_reading b M N T h s = solves_reading (inputs_of b M) (inputs_of b N) T b.rows (less_of b M N h) s
 
 pub body_for_less : (b : Body) (M N : Families) (T : Family) → ((f : ℕ) (p : Place) → Below (M f p) (N f p)) → Solves (inputs_of b N) T b.rows → Solves (inputs_of b M) T b.rows
 body_for_less b M N T h s = body_reading b M N T (λ f p w. h f p) s
+
+-- least trees for inputs that are alike where rows read them
+pub least_alike : (I J : InputTrees) (rows : List Row) (F H : Family) → LessWhereRead rows I J → LessWhereRead rows J I → ((p : Place) → H p ≡ F p) → IsLeast I rows F → IsLeast J rows H
+least_alike I J rows F H l m e f = record {
+  solves = solves_untouched J F H rows (λ n w. e (Node n)) (λ p. below_same (F p) (H p) (sym (e p))) (solves_reading J I F rows m f.solves);
+  least = λ G s p. below_trans (below_same (H p) (F p) (e p)) (f.least G (solves_reading I J G rows l s) p);
+}

@@ -7,4 +7,5 @@ pub mod Working
 pub mod Solutions
 pub mod Programs
 pub mod Orders
+pub mod Cores
 pub mod Told

@@ -15,7 +15,8 @@
 //! * `outputs`: the trees of the other places, which no row reads;
 //! * `solutions`: a `Solution`;
 //! * `solving`: `least`;
-//! * `laws`: what holds of all rows, and of all programs, whatever the order of work.
+//! * `laws`: what holds of all rows, and of all programs, whatever the order of work;
+//! * `cores`: what holds of every state that an incremental core reaches.
 //!
 //! # Which rule of flow needs which right side
 //!
@@ -50,6 +51,7 @@
 //! | what is wanted of a parameter | `Local` into `Back(parameter)` |
 #![tactic(auto)]
 
+mod cores;
 mod gathering;
 mod inequalities;
 mod inputs;
@@ -65,6 +67,10 @@ mod tests;
 mod told;
 mod values;
 
+pub use cores::{
+    closed_sets_reset, each_step_keeps, reached_below, reached_keeps, settled_is_least,
+    the_start_has_the_facts,
+};
 pub use gathering::{carried, through, wanted};
 pub use inequalities::{Moves, Right, Row};
 pub use inputs::Inputs;
