@@ -10,7 +10,7 @@ use Rattle.rows.specs.declared.inequalities.Row.{Row}
 use Rattle.rows.specs.Families.{Family, Families, InputTrees}
 use Rattle.rows.specs.Inequalities.{Solves, IsLeast}
 use Rattle.rows.specs.Programs.{Body, Bodies, inputs_of, LessWhereRead, Reads, SolvesAll, IsLeastOfAll}
-use Rattle.rows.specs.Orders.{CoreFacts, Resets, Gives}
+use Rattle.rows.specs.Orders.{CoreFacts, Resets, Gives, LeastStays, GivenSettles}
 use Rattle.rows.specs.Cores.{CoreTask, CoreState, present, IsReady, IsFresh, StateFacts, OutBut, CoreStep, take, stale, keep, back, edit, IsStart, IsReached, starts, after, IsClosed, reset}
 use Rattle.rows.proofs.Monotony.{where_trans, less_of, least_alike, solves_reading}
 use Rattle.rows.proofs.Edits.{below_same, above_same, emptied_below, below_empty, gives_grow, result_keeps, edit_keeps, facts_start, facts_below}
@@ -156,6 +156,21 @@ kept_less b M N k = less_of b M N (λ f p w. below_same (M f p) (N f p) (k f p w
 kept_more : (b : Body) (M N : Families) → ((f : ℕ) (p : Place) → Reads b f p → M f p ≡ N f p) → LessWhereRead b.rows (inputs_of b N) (inputs_of b M)
 kept_more b M N k = less_of b N M (λ f p w. above_same (M f p) (N f p) (k f p w))
 
+-- a callable that has the least trees keeps them, where no tree changes that it reads of the one whose result is kept
+pub least_stays : LeastStays
+least_stays bodies M N g f T d n k least =
+    let here = kept_same (bodies f) M N g T d k in
+    least_alike (inputs_of (bodies f) M) (inputs_of (bodies f) N) (bodies f).rows (M f) (N f) (kept_less (bodies f) M N here) (kept_more (bodies f) M N here) (λ p. d.there f p n) least
+
+-- and that one has them
+pub given_settles : GivenSettles
+given_settles bodies M N g I T d k uses more least =
+    let here = kept_same (bodies g) M N g T d k in
+    least_alike I (inputs_of (bodies g) N) (bodies g).rows T (N g)
+    (where_trans (bodies g).rows I (inputs_of (bodies g) M) (inputs_of (bodies g) N) uses (kept_less (bodies g) M N here))
+    (where_trans (bodies g).rows (inputs_of (bodies g) N) (inputs_of (bodies g) M) I (kept_more (bodies g) M N here) more)
+    d.here least
+
 pub keep_keeps : (s : CoreState) (N : Families) (ready : List ℕ) (out : ℕ → Option CoreTask) (g : ℕ) (t : CoreTask) (T : Family) → IsFresh s g t
     → IsLeast t.given (s.bodies g).rows T → Gives s.trees N g T → OutBut s.out out g None → ((f : ℕ) → Contains s.ready f → Contains ready f)
     → ((f : ℕ) → Contains ready f ⊎ ((p : Place) → Reads (s.bodies f) g p → s.trees g p ≡ N g p)) → StateFacts s
@@ -173,18 +188,9 @@ keep_keeps s N ready out g t T fresh least d b r wakes f =
         | inl y ↦ absurd (nr y)
         | inr k ↦ elim (none_cases s.out out g None b h o) [
           | inl a ↦ at (λ z. ((p : Place) → Reads (s.bodies z) g p → M g p ≡ N g p) → (Contains ready z → ⊥) → IsLeast (inputs_of (s.bodies z) N) (s.bodies z).rows (N z)) g h a.0
-              (λ j n.
-                  let here = kept_same (s.bodies g) M N g T d j in
-                  let back = f.same g t fresh (λ y. n (r g y)) in
-                  least_alike t.given (inputs_of (s.bodies g) N) (s.bodies g).rows T (N g)
-                  (where_trans (s.bodies g).rows t.given (present s g) (inputs_of (s.bodies g) N) uses (kept_less (s.bodies g) M N here))
-                  (where_trans (s.bodies g).rows (inputs_of (s.bodies g) N) (present s g) t.given (kept_more (s.bodies g) M N here) back)
-                  d.here least)
+              (λ j n. given_settles s.bodies M N g t.given T d j uses (f.same g t fresh (λ y. n (r g y))) least)
               k nr
-          | inr a ↦
-              (let here = kept_same (s.bodies h) M N g T d k in
-              least_alike (present s h) (inputs_of (s.bodies h) N) (s.bodies h).rows (M h) (N h) (kept_less (s.bodies h) M N here) (kept_more (s.bodies h) M N here)
-              (λ p. d.there h p a.0) (f.settled h (λ y. nr (r h y)) a.1))
+          | inr a ↦ least_stays s.bodies M N g h T d a.0 k (f.settled h (λ y. nr (r h y)) a.1)
         ]
       ];
       given = λ h u o. elim (out_cases s.out out g None b h u o.0) [

@@ -166,12 +166,12 @@ edit_keeps_task old new R M N J g r n j =
       under = subst Y (sym (r.bodies g n)) (λ T s p. below_trans (below_same (N g p) (M g p) (r.stays g p n)) (j.under T s p));
     }
 
--- a callable whose rows are solved stays so at a result of another one of which it reads nothing
+-- a callable whose rows are solved stays so at a result of another one, where no tree changes that it reads of that one
 pub settled_stays : SettledStays
-settled_stays bodies M N g f T d n free s =
+settled_stays bodies M N g f T d n same s =
     body_reading (bodies f) N M (N f)
     (λ h p w. elim (cases_eq h g) [
-      | inl e ↦ (let P : ℕ → Type 0 = λ z. Reads (bodies f) z p in absurd (free p (subst P e w)))
+      | inl e ↦ (let P : ℕ → Type 0 = λ z. Reads (bodies f) z p → Below (N z p) (M z p) in subst P (sym e) (λ v. above_same (M g p) (N g p) (same p v)) w)
       | inr m ↦ below_same (N h p) (M h p) (d.there h p m)
     ])
     (solves_untouched (inputs_of (bodies f) M) (M f) (N f) (bodies f).rows (λ k w. d.there f (Node k) n) (λ p. above_same (N f p) (M f p) (d.there f p n)) s)

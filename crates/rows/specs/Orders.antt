@@ -4,9 +4,9 @@ use Rattle.std.specs.Option.{MatchOption}
 use Rattle.std.specs.FinMap.{empty}
 use Rattle.path_trees.specs.Trees.{TreeMap, Below}
 use Rattle.rows.specs.declared.places.Place.{Place}
-use Rattle.rows.specs.Families.{Family, Families}
+use Rattle.rows.specs.Families.{Family, Families, InputTrees}
 use Rattle.rows.specs.Inequalities.{Solves, IsLeast}
-use Rattle.rows.specs.Programs.{Body, Bodies, inputs_of, SolvesAll, IsLeastOfAll, Reads}
+use Rattle.rows.specs.Programs.{Body, Bodies, inputs_of, SolvesAll, IsLeastOfAll, LessWhereRead, Reads}
 
 -- the trees of some callables, and nothing of the others
 abbrev pub only : (ℕ → Bool) → Families → Families
@@ -69,10 +69,25 @@ pub data Reached : Bodies → Families → Tasks → Type 0 where
 abbrev pub AnyOrderSettles : Type 0
 AnyOrderSettles = (bodies : Bodies) (M : Families) (out : Tasks) → Reached bodies M out → SolvesAll bodies M → IsLeastOfAll bodies M
 
--- a callable whose rows are solved stays so at a result of another one of which it reads nothing
+-- a callable whose rows are solved stays so at a result of another one, where no tree changes that it reads of that one
 abbrev pub SettledStays : Type 0
 SettledStays =
-    (bodies : Bodies) (M N : Families) (g f : ℕ) (T : Family) → Gives M N g T → (f ≡ g → ⊥) → ((p : Place) → Reads (bodies f) g p → ⊥) → Solves (inputs_of (bodies f) M) (M f) (bodies f).rows → Solves (inputs_of (bodies f) N) (N f) (bodies f).rows
+    (bodies : Bodies) (M N : Families) (g f : ℕ) (T : Family) → Gives M N g T → (f ≡ g → ⊥) → ((p : Place) → Reads (bodies f) g p → M g p ≡ N g p)
+    → Solves (inputs_of (bodies f) M) (M f) (bodies f).rows → Solves (inputs_of (bodies f) N) (N f) (bodies f).rows
+
+-- and one that has the least trees for the present ones keeps them
+abbrev pub LeastStays : Type 0
+LeastStays =
+    (bodies : Bodies) (M N : Families) (g f : ℕ) (T : Family) → Gives M N g T → (f ≡ g → ⊥) → ((p : Place) → Reads (bodies f) g p → M g p ≡ N g p)
+    → IsLeast (inputs_of (bodies f) M) (bodies f).rows (M f) → IsLeast (inputs_of (bodies f) N) (bodies f).rows (N f)
+
+-- a callable whose result is kept has the least trees for the present ones, where what its body was given is what it reads of
+-- the trees before, and where no tree changes that it reads of itself
+abbrev pub GivenSettles : Type 0
+GivenSettles =
+    (bodies : Bodies) (M N : Families) (g : ℕ) (I : InputTrees) (T : Family) → Gives M N g T → ((p : Place) → Reads (bodies g) g p → M g p ≡ N g p)
+    → LessWhereRead (bodies g).rows I (inputs_of (bodies g) M) → LessWhereRead (bodies g).rows (inputs_of (bodies g) M) I
+    → IsLeast I (bodies g).rows T → IsLeast (inputs_of (bodies g) N) (bodies g).rows (N g)
 
 -- the places of some sort are kept, and bodies read no others. Where the kept trees are below each solution, and are those
 -- of the least trees of all bodies for them, these least trees are the least solution

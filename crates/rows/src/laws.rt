@@ -9,7 +9,7 @@ ghost use Rattle.rows.specs.declared.inequalities.Row.{Row};
 ghost use Rattle.rows.specs.Families.{Families, Family, InputTrees, Less};
 ghost use Rattle.rows.specs.Inequalities.{IsLeast, RightBelow, Solves};
 ghost use Rattle.rows.specs.Programs.{Bodies, IsLeastOfAll, LessWhereRead, RowsReadNode};
-ghost use Rattle.rows.specs.Orders.{AnyOrderSettles, ModelsSettle, SettledStays};
+ghost use Rattle.rows.specs.Orders.{AnyOrderSettles, GivenSettles, LeastStays, ModelsSettle, SettledStays};
 
 /// Right sides are monotone: one that is below a tree, for greater inputs and greater trees of the nodes, is below it for
 /// lesser ones, and below each greater tree.
@@ -46,9 +46,13 @@ pub fn any_order_settles()
     ensures { AnyOrderSettles }
 {}
 
-/// A callable whose rows are solved stays so at a result of another callable of which it reads nothing.
+/// A callable whose rows are solved, or whose trees are the least ones, stays so at a result of another callable, where no
+/// tree changes that it reads of that one. So has the callable of the result the least trees, where what its body was given is
+/// what it reads of the trees before, and where no tree changes that it reads of itself.
 pub fn settled_callables_stay()
-    ensures { SettledStays }
+    ensures solved { SettledStays }
+    ensures least { LeastStays }
+    ensures given { GivenSettles }
 {}
 
 /// Where only the trees are kept that other bodies read, the least trees of all bodies for them are the least solution.
