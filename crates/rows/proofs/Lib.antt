@@ -1,4 +1,5 @@
 pub mod Joins
+pub mod Covers
 pub mod Monotone
 pub mod RightTrees
 pub mod Indexes

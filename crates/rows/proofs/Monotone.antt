@@ -24,10 +24,7 @@ use Rattle.rows.specs.Families.{Family, InputTrees, Less}
 use Rattle.rows.specs.Rules.{moved_all, join_of, goes_on, carried_entry, carried, leads_to_result, leads_to_cell, through_entry, through, put_entry, put_through, wanted_mark, wanted_entry, wanted}
 use Rattle.rows.specs.Inequalities.{RightBelow, Holds, Solves, IsLeast}
 use Rattle.rows.proofs.Joins.{Falls, join_of-mono}
-
-pub moved_all-mono : (moves : List Move) (t u : TreeMap) → Below t u → Below (moved_all moves t) (moved_all moves u)
-moved_all-mono [] t u h = h
-moved_all-mono (m ∷ moves) t u h = moved_all-mono moves (moved m t) (moved m u) (moved-mono m t u h)
+use Rattle.rows.proofs.Covers.{moved_all-mono, cells_reading}
 
 one_nearer : (s : Spot) (d e : ℕ) → d ≤ e → Below (with_entry empty s e) (with_entry empty s d)
 one_nearer s d e h = record {
@@ -68,7 +65,7 @@ wanted-mono t u b c h k =
     (record { at = λ s d e l. below_refl (wanted_entry u s d) }) (below_within k)
 
 pub less_refl : (I : InputTrees) → Less I I
-less_refl I = record { of = λ g p. below_refl (I.of g p); puts = λ h c. below_refl (I.puts h c) }
+less_refl I = record { of = λ g p. below_refl (I.of g p); puts = λ s q d k. k }
 
 pub right-mono : (I J : InputTrees) (N M : ℕ → TreeMap) (r : Right) (u v : TreeMap) → Less I J → ((n : ℕ) → Below (N n) (M n)) → Below u v → RightBelow J M r u → RightBelow I N r v
 right-mono I J N M (Known t) u v i n h w = below_trans w h
@@ -78,4 +75,4 @@ right-mono I J N M (Carried g k) u v i n h w = below_trans (carried-mono _ _ (i.
 right-mono I J N M (Through g k m) u v i n h w = below_trans (through-mono _ _ _ _ (n m) (i.of g (Back k))) (below_trans w h)
 right-mono I J N M (Wanted g k m) u v i n h w = below_trans (wanted-mono _ _ _ _ (n m) (i.of g (Back k))) (below_trans w h)
 right-mono I J N M (Cells moves s) u v i n h w =
-    λ f c m. below_trans (moved_all-mono moves _ _ (moved-mono Bump _ _ (i.puts f c))) (below_trans (w f c m) h)
+    λ f c m. below_trans (cells_reading I.puts J.puts moves s u (i.puts s) w f c m) h

@@ -23,11 +23,6 @@ pub record InputTrees : Type 0 where
   pub of : ℕ → Family
   pub puts : ℕ → Step → TreeMap
 
--- what other callables give is less, or the same
-pub record Less (I J : InputTrees) : Type 0 where
-  pub of : (g : ℕ) (p : Place) → Below (I.of g p) (J.of g p)
-  pub puts : (h : ℕ) (c : Step) → Below (I.puts h c) (J.puts h c)
-
 -- the tree at an index; past the end the empty one
 abbrev pub tree_at : List TreeMap → ℕ → TreeMap
 tree_at trees n = slice_index_or trees n empty
@@ -38,6 +33,15 @@ pub record StandsInCell (puts : ℕ → Step → TreeMap) (s : Step) (q : Spot) 
   pub cell : Step
   pub meets_it : IsTrue (meets cell s)
   pub stands : Stands (moved Bump (puts callable cell)) q d
+
+-- whatever stands in the cells that meet a step stands there in others too, whoever put it there
+abbrev pub CellsBelow : (ℕ → Step → TreeMap) → (ℕ → Step → TreeMap) → Step → Type 0
+CellsBelow puts others s = (q : Spot) (d : ℕ) → StandsInCell puts s q d → StandsInCell others s q d
+
+-- what other callables give is less, or the same
+pub record Less (I J : InputTrees) : Type 0 where
+  pub of : (g : ℕ) (p : Place) → Below (I.of g p) (J.of g p)
+  pub puts : (s : Step) → CellsBelow I.puts J.puts s
 
 -- a tree is the join of what all callables put into the cells that meet a step, each one farther away
 pub record IsJoinOfCells (puts : ℕ → Step → TreeMap) (s : Step) (t : TreeMap) : Type 0 where

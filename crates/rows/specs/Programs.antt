@@ -10,7 +10,7 @@ use Rattle.rows.specs.declared.inequalities.Right.{Right}
 use Rattle.rows.specs.declared.inequalities.Right.TheVariants.{Known, Local, Outer, Carried, Through, Wanted, Cells}
 use Rattle.rows.specs.declared.inequalities.Row.{Row}
 use Rattle.rows.specs.declared.inequalities.Row.TheVariants.{Into, Puts}
-use Rattle.rows.specs.Families.{Family, Families, InputTrees}
+use Rattle.rows.specs.Families.{Family, Families, InputTrees, CellsBelow, IsJoinOfCells}
 use Rattle.rows.specs.Inequalities.{Solves}
 use Rattle.rows.specs.Reading.{right_node, is_node}
 
@@ -78,6 +78,24 @@ abbrev pub RowsReadCell : List Row → Step → Type 0
 RowsReadCell [] c = ⊥
 RowsReadCell (r ∷ rows) c = RowReadsCell r c ⊎ RowsReadCell rows c
 
+-- the steps by which a right side reads cells
+abbrev pub RightReadsStep : Right → Step → Type 0
+RightReadsStep (Known t) s = ⊥
+RightReadsStep (Local moves n) s = ⊥
+RightReadsStep (Outer moves g q) s = ⊥
+RightReadsStep (Carried g i) s = ⊥
+RightReadsStep (Through g i n) s = ⊥
+RightReadsStep (Wanted g i n) s = ⊥
+RightReadsStep (Cells moves t) s = s ≡ t
+
+abbrev pub RowReadsStep : Row → Step → Type 0
+RowReadsStep (Into q right) s = RightReadsStep right s
+RowReadsStep (Puts g i n) s = ⊥
+
+abbrev pub RowsReadStep : List Row → Step → Type 0
+RowsReadStep [] s = ⊥
+RowsReadStep (r ∷ rows) s = RowReadsStep r s ⊎ RowsReadStep rows s
+
 -- the nodes that rows read
 abbrev pub RowReadsNode : Row → ℕ → Type 0
 RowReadsNode (Into q right) n = IsTrue (is_node (right_node right) n)
@@ -87,10 +105,17 @@ abbrev pub RowsReadNode : List Row → ℕ → Type 0
 RowsReadNode [] n = ⊥
 RowsReadNode (r ∷ rows) n = RowReadsNode r n ⊎ RowsReadNode rows n
 
--- what other callables give is less, or the same, where rows read it
+-- what other callables give is less, or the same, where rows read it: the places of callees, and what stands in the cells
+-- that meet a step, whoever put it there
 pub record LessWhereRead (rows : List Row) (I J : InputTrees) : Type 0 where
   pub of : (k : ℕ) (p : Place) → RowsRead rows k p → Below (I.of k p) (J.of k p)
-  pub puts : (h : ℕ) (c : Step) → RowsReadCell rows c → Below (I.puts h c) (J.puts h c)
+  pub puts : (s : Step) → RowsReadStep rows s → CellsBelow I.puts J.puts s
+
+-- inputs that give the same where rows read them: equal trees of callees, and one join of what is put into the cells that
+-- meet a step
+pub record SameWhereRead (rows : List Row) (I J : InputTrees) : Type 0 where
+  pub of : (k : ℕ) (p : Place) → RowsRead rows k p → I.of k p ≡ J.of k p
+  pub puts : (s : Step) → RowsReadStep rows s → (t : TreeMap) × IsJoinOfCells I.puts s t × IsJoinOfCells J.puts s t
 
 -- a body reads a callable's place: as that of a callee
 pub record ReadsCallee (b : Body) (f : ℕ) (p : Place) : Type 0 where

@@ -1,6 +1,6 @@
 //! What holds of all rows and of all programs.
 
-ghost use Rattle.std.specs.Prelude.{◌≡◌, ℕ, List};
+ghost use Rattle.std.specs.Prelude.{◌≡◌, ◌↔◌, ℕ, List};
 ghost use Rattle.path_trees.specs.Trees.{Below, TreeMap};
 ghost use Rattle.rows.specs.declared.places.Place.{Place};
 ghost use Rattle.rows.specs.declared.places.Place.TheVariants.{Node};
@@ -8,7 +8,7 @@ ghost use Rattle.rows.specs.declared.inequalities.Right.{Right};
 ghost use Rattle.rows.specs.declared.inequalities.Row.{Row};
 ghost use Rattle.rows.specs.Families.{Families, Family, InputTrees, Less};
 ghost use Rattle.rows.specs.Inequalities.{IsLeast, RightBelow, Solves};
-ghost use Rattle.rows.specs.Programs.{Bodies, IsLeastOfAll, LessWhereRead, RowsReadNode};
+ghost use Rattle.rows.specs.Programs.{Bodies, IsLeastOfAll, LessWhereRead, RowsReadNode, SameWhereRead};
 ghost use Rattle.rows.specs.Orders.{AnyOrderSettles, GivenSettles, LeastStays, ModelsSettle, SettledStays};
 
 /// Right sides are monotone: one that is below a tree, for greater inputs and greater trees of the nodes, is below it for
@@ -26,6 +26,14 @@ pub fn lesser_inputs_keep_a_solution()
 /// Only what rows read matters: a solution for inputs that are greater there is one for these inputs.
 pub fn only_what_rows_read_matters()
     ensures { (I J : InputTrees) (F : Family) (rows : List Row) → LessWhereRead rows I J → Solves J F rows → Solves I F rows }
+{}
+
+/// Inputs with equal trees of callees, and equal joins of cells at the steps read, have the same solutions. So what a body is
+/// given may list who puts into cells in any order, leave out those that no row reads, or have one joined tree for each step.
+pub fn joined_cells_suffice()
+    ensures alike { (I J : InputTrees) (rows : List Row) → SameWhereRead rows I J → LessWhereRead rows I J × LessWhereRead rows J I }
+    ensures solves { (I J : InputTrees) (F : Family) (rows : List Row) → SameWhereRead rows I J → Solves I F rows ↔ Solves J F rows }
+    ensures least { (I J : InputTrees) (F : Family) (rows : List Row) → SameWhereRead rows I J → IsLeast I rows F → IsLeast J rows F }
 {}
 
 /// There is one least solution of a body's rows, and of all rows of a program. That there is a least one for a body is what

@@ -75,9 +75,9 @@ pub use gathering::{carried, through, wanted};
 pub use inequalities::{Moves, Right, Row};
 pub use inputs::Inputs;
 pub use laws::{
-    any_order_settles, lesser_inputs_keep_a_solution, models_settle, only_what_rows_read_matters,
-    right_sides_are_monotone, settled_callables_stay, the_least_solution_is_one,
-    untouched_rows_stay_solved,
+    any_order_settles, joined_cells_suffice, lesser_inputs_keep_a_solution, models_settle,
+    only_what_rows_read_matters, right_sides_are_monotone, settled_callables_stay,
+    the_least_solution_is_one, untouched_rows_stay_solved,
 };
 pub use places::Place;
 pub use solutions::{PutTree, Solution};
