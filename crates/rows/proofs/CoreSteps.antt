@@ -2,7 +2,7 @@
 use Rattle.std.proofs.Common.{◌≡◌, ◌≤◌, ◌<◌, ◌+◌, ℕ, List, [], Bool, true, false, cond, Option, Some, None, refl, ap, sym, ◌∙◌, subst, inl, inr, ◌⊎◌, Contains, arith}
 use Rattle.std.specs.FinMap.{empty}
 use Rattle.std.proofs.lemmas.Bool.{cases_eq, cases_Bool}
-use Rattle.path_trees.specs.Trees.{TreeMap, Below}
+use Rattle.path_trees.specs.Trees.{Below}
 use Rattle.path_trees.proofs.Finite.{below_trans}
 use Rattle.rows.specs.declared.places.Place.{Place}
 use Rattle.rows.specs.declared.places.Place.TheVariants.{Node, Result, Back, Put}

@@ -1,5 +1,5 @@
 -- Moves take a tree entry by entry: what is covered by some trees is so after moves.
-use Rattle.std.proofs.Common.{◌≡◌, ℕ, List, [], ◌∷◌, refl, sym, subst, inl, inr, ◌⊎◌, ◌≤◌, IsTrue, arith}
+use Rattle.std.proofs.Common.{ℕ, List, [], ◌∷◌, refl, sym, subst, inl, inr, ◌≤◌, IsTrue, arith}
 use Rattle.std.specs.FinMap.{entries}
 use Rattle.path_trees.specs.declared.steps.Step.{Step}
 use Rattle.path_trees.specs.declared.spots.Spot.{Spot}
@@ -9,9 +9,9 @@ use Rattle.path_trees.specs.Steps.{meets}
 use Rattle.path_trees.specs.Moves.{move_spot, shift}
 use Rattle.path_trees.specs.Trees.{TreeMap, Below, Stands, least_of}
 use Rattle.path_trees.specs.Operations.{image, images, moved}
-use Rattle.path_trees.proofs.Finite.{Listed, listed_left, listed_split, least_listed, listed_least, stands_listed, listed_stands, below_trans}
+use Rattle.path_trees.proofs.Finite.{Listed, listed_left, listed_split, least_listed, listed_least, stands_listed, listed_stands}
 use Rattle.path_trees.proofs.TreeLaws.{moved-least, moved-mono}
-use Rattle.rows.specs.Families.{StandsInCell, CellsBelow, IsJoinOfCells}
+use Rattle.rows.specs.Families.{CellsBelow, IsJoinOfCells}
 use Rattle.rows.specs.Rules.{moved_all}
 
 pub moved_all-mono : (moves : List Move) (t u : TreeMap) → Below t u → Below (moved_all moves t) (moved_all moves u)

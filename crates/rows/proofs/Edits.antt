@@ -1,5 +1,5 @@
 -- The facts of an incremental run are kept by each result, also one for trees that are out of date, and by each edit.
-use Rattle.std.proofs.Common.{◌≡◌, ℕ, List, [], ◌∷◌, Bool, true, false, cond, not, ◌&&◌, Option, Some, None, refl, ap, sym, ◌∙◌, subst, inl, inr, ◌⊎◌}
+use Rattle.std.proofs.Common.{◌≡◌, ℕ, Bool, true, false, cond, not, ◌&&◌, Option, Some, None, refl, ap, sym, ◌∙◌, subst, inl, inr}
 use Rattle.std.specs.FinMap.{empty}
 use Rattle.std.proofs.lemmas.Bool.{cases_eq, cases_Bool}
 use Rattle.std.specs.Option.{MatchOption}
@@ -7,7 +7,6 @@ use Rattle.path_trees.specs.Trees.{TreeMap, Below}
 use Rattle.path_trees.proofs.Finite.{below_refl, below_trans, below_antisymm}
 use Rattle.rows.specs.declared.places.Place.{Place}
 use Rattle.rows.specs.declared.places.Place.TheVariants.{Node}
-use Rattle.rows.specs.declared.inequalities.Row.{Row}
 use Rattle.rows.specs.Families.{Family, Families, InputTrees}
 use Rattle.rows.specs.Inequalities.{Solves, IsLeast}
 use Rattle.rows.specs.Programs.{Body, Bodies, inputs_of, SolvesAll, IsLeastOfAll, LessWhereRead, Reads}

@@ -8,4 +8,5 @@ pub mod Gifts
 pub mod Monotony
 pub mod Edits
 pub mod CoreSteps
+pub mod Renames
 pub mod Putters

@@ -1,28 +1,22 @@
 -- Right sides are monotone, in what other callables give and in the trees of the nodes.
-use Rattle.std.proofs.Common.{◌≡◌, ℕ, ◌≤◌, Bool, true, false, cond, List, [], ◌∷◌, refl, ap, ◌∙◌, sym, subst, inl, inr, ◌⊎◌, arith, IsTrue}
+use Rattle.std.proofs.Common.{ℕ, ◌≤◌, Bool, true, false, cond, List, inl, inr, arith}
 use Rattle.std.specs.FinMap.{empty, entries}
 use Rattle.path_trees.specs.declared.steps.Step.{Step}
-use Rattle.path_trees.specs.declared.marks.Port.{Port}
 use Rattle.path_trees.specs.declared.marks.Port.TheVariants.{Result, Cell}
 use Rattle.path_trees.specs.declared.marks.Mark.{Mark}
 use Rattle.path_trees.specs.declared.marks.Mark.TheVariants.{Source, Sink, Out}
 use Rattle.path_trees.specs.declared.spots.Spot.{Spot}
-use Rattle.path_trees.specs.declared.moves.Move.{Move}
 use Rattle.path_trees.specs.declared.moves.Move.TheVariants.{Bump}
 use Rattle.path_trees.specs.Moves.{shift}
 use Rattle.path_trees.specs.Trees.{TreeMap, Below, with_entry}
-use Rattle.path_trees.specs.Operations.{moved, applied}
 use Rattle.path_trees.proofs.Finite.{below_refl, below_trans, entry_stands, stands_entry}
-use Rattle.path_trees.proofs.TreeLaws.{below_within, moved-mono, graft-mono, sub-mono, taken-mono, applied-mono, shift-mono}
-use Rattle.rows.specs.declared.places.Place.{Place}
-use Rattle.rows.specs.declared.places.Place.TheVariants.{Node, Back, Put}
+use Rattle.path_trees.proofs.TreeLaws.{below_within, graft-mono, sub-mono, taken-mono, applied-mono, shift-mono}
+use Rattle.rows.specs.declared.places.Place.TheVariants.{Back}
 use Rattle.rows.specs.declared.inequalities.Right.{Right}
 use Rattle.rows.specs.declared.inequalities.Right.TheVariants.{Known, Local, Outer, Carried, Through, Wanted, Cells}
-use Rattle.rows.specs.declared.inequalities.Row.{Row}
-use Rattle.rows.specs.declared.inequalities.Row.TheVariants.{Into, Puts}
-use Rattle.rows.specs.Families.{Family, InputTrees, Less}
-use Rattle.rows.specs.Rules.{moved_all, join_of, goes_on, carried_entry, carried, leads_to_result, leads_to_cell, through_entry, through, put_entry, put_through, wanted_mark, wanted_entry, wanted}
-use Rattle.rows.specs.Inequalities.{RightBelow, Holds, Solves, IsLeast}
+use Rattle.rows.specs.Families.{InputTrees, Less}
+use Rattle.rows.specs.Rules.{goes_on, carried_entry, carried, leads_to_result, leads_to_cell, through_entry, through, put_entry, put_through, wanted_mark, wanted_entry, wanted}
+use Rattle.rows.specs.Inequalities.{RightBelow}
 use Rattle.rows.proofs.Joins.{Falls, join_of-mono}
 use Rattle.rows.proofs.Covers.{moved_all-mono, cells_reading}
 

@@ -1,5 +1,5 @@
 -- A solution for greater inputs, where rows read them, is one for lesser ones; what is not touched stays solved.
-use Rattle.std.proofs.Common.{◌≡◌, ◌↔◌, ℕ, List, [], ◌∷◌, Bool, true, Option, Some, None, refl, ap, ◌∙◌, sym, subst, inl, inr, ◌⊎◌, eqb, IsTrue}
+use Rattle.std.proofs.Common.{◌≡◌, ◌↔◌, ℕ, List, [], ◌∷◌, true, Option, Some, None, refl, sym, subst, inl, inr, eqb, IsTrue}
 use Rattle.std.specs.FinMap.{empty}
 use Rattle.std.proofs.lemmas.Bool.Decides.{nat_tests}
 use Rattle.std.proofs.Common.{arith}
@@ -8,7 +8,7 @@ use Rattle.path_trees.specs.Steps.{meets}
 use Rattle.path_trees.specs.Trees.{TreeMap, Below}
 use Rattle.path_trees.proofs.Finite.{below_refl, below_trans, below_antisymm}
 use Rattle.rows.specs.declared.places.Place.{Place}
-use Rattle.rows.specs.declared.places.Place.TheVariants.{Node, Result, Back, Put}
+use Rattle.rows.specs.declared.places.Place.TheVariants.{Node, Back, Put}
 use Rattle.rows.specs.declared.inequalities.Right.{Right}
 use Rattle.rows.specs.declared.inequalities.Right.TheVariants.{Known, Local, Outer, Carried, Through, Wanted, Cells}
 use Rattle.rows.specs.declared.inequalities.Row.{Row}
@@ -16,7 +16,7 @@ use Rattle.rows.specs.declared.inequalities.Row.TheVariants.{Into, Puts}
 use Rattle.rows.specs.Families.{Family, Families, InputTrees, CellsBelow, Less}
 use Rattle.rows.specs.Inequalities.{RightBelow, Holds, Solves, IsLeast}
 use Rattle.rows.specs.Reading.{right_node, is_node}
-use Rattle.rows.specs.Programs.{Body, Bodies, callee_tree, inputs_of, SolvesAll, IsLeastOfAll, RightReads, RightReadsCell, RowReads, RowsRead, RightReadsStep, RowReadsStep, RowsReadStep, RowReadsCell, RowsReadCell, RowReadsNode, RowsReadNode, LessWhereRead, SameWhereRead, ReadsCallee, ReadsAsCell, Reads}
+use Rattle.rows.specs.Programs.{Body, Bodies, callee_tree, inputs_of, IsLeastOfAll, RightReads, RightReadsCell, RightReadsStep, RowReadsStep, RowsReadStep, RowReadsCell, RowsReadCell, RowReadsNode, RowsReadNode, LessWhereRead, SameWhereRead, Reads}
 use Rattle.rows.proofs.Covers.{moved_all-mono, cells_reading, cells_of, cells_of_joins}
 use Rattle.rows.proofs.Monotone.{carried-mono, through-mono, put_through-mono, wanted-mono}
 

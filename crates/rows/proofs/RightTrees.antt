@@ -1,18 +1,17 @@
 -- The least tree above a right side.
-use Rattle.std.proofs.Common.{◌≡◌, ℕ, List, [], ◌∷◌, refl, ap, ◌∙◌, sym, subst, inl, inr, ◌⊎◌, ◌≤◌, IsTrue, Option, Some, None, arith}
+use Rattle.std.proofs.Common.{◌≡◌, ℕ, List}
 use Rattle.path_trees.specs.declared.steps.Step.{Step}
 use Rattle.path_trees.specs.declared.moves.Move.{Move}
 use Rattle.path_trees.specs.declared.moves.Move.TheVariants.{Bump}
-use Rattle.path_trees.specs.Trees.{TreeMap, Below}
+use Rattle.path_trees.specs.Trees.{TreeMap}
 use Rattle.path_trees.specs.Operations.{moved}
 use Rattle.path_trees.proofs.Finite.{below_refl}
 use Rattle.rows.specs.declared.places.Place.{Place}
 use Rattle.rows.specs.declared.places.Place.TheVariants.{Back}
-use Rattle.rows.specs.declared.inequalities.Right.{Right}
 use Rattle.rows.specs.declared.inequalities.Right.TheVariants.{Known, Local, Outer, Carried, Through, Wanted, Cells}
 use Rattle.rows.specs.Families.{InputTrees, IsJoinOfCells}
 use Rattle.rows.specs.Rules.{moved_all, carried, through, wanted}
-use Rattle.rows.specs.Inequalities.{RightBelow, IsRight}
+use Rattle.rows.specs.Inequalities.{IsRight}
 use Rattle.rows.proofs.Covers.{Meeting, Covered, covered_moved_all, covered_below, moved_all-mono}
 
 pub cells_right : (I : InputTrees) (N : ℕ → TreeMap) (moves : List Move) (s : Step) (t u : TreeMap) → IsJoinOfCells I.puts s t → u ≡ moved_all moves t → IsRight I N (Cells moves s) u

@@ -8,4 +8,5 @@ pub mod Solutions
 pub mod Programs
 pub mod Orders
 pub mod Cores
+pub mod Numberings
 pub mod Told

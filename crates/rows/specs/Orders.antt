@@ -2,11 +2,11 @@
 use Rattle.std.specs.Prelude.{◌≡◌, ℕ, Bool, true, false, cond, Option, Some, None}
 use Rattle.std.specs.Option.{MatchOption}
 use Rattle.std.specs.FinMap.{empty}
-use Rattle.path_trees.specs.Trees.{TreeMap, Below}
+use Rattle.path_trees.specs.Trees.{Below}
 use Rattle.rows.specs.declared.places.Place.{Place}
 use Rattle.rows.specs.Families.{Family, Families, InputTrees}
 use Rattle.rows.specs.Inequalities.{Solves, IsLeast}
-use Rattle.rows.specs.Programs.{Body, Bodies, inputs_of, SolvesAll, IsLeastOfAll, LessWhereRead, Reads}
+use Rattle.rows.specs.Programs.{Bodies, inputs_of, SolvesAll, IsLeastOfAll, LessWhereRead, Reads}
 
 -- the trees of some callables, and nothing of the others
 abbrev pub only : (ℕ → Bool) → Families → Families

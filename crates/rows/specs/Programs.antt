@@ -10,7 +10,7 @@ use Rattle.rows.specs.declared.inequalities.Right.{Right}
 use Rattle.rows.specs.declared.inequalities.Right.TheVariants.{Known, Local, Outer, Carried, Through, Wanted, Cells}
 use Rattle.rows.specs.declared.inequalities.Row.{Row}
 use Rattle.rows.specs.declared.inequalities.Row.TheVariants.{Into, Puts}
-use Rattle.rows.specs.Families.{Family, Families, InputTrees, CellsBelow, IsJoinOfCells}
+use Rattle.rows.specs.Families.{Families, InputTrees, CellsBelow, IsJoinOfCells}
 use Rattle.rows.specs.Inequalities.{Solves}
 use Rattle.rows.specs.Reading.{right_node, is_node}
 

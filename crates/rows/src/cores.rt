@@ -9,6 +9,7 @@ ghost use Rattle.rows.specs.declared.places.Place.{Place};
 ghost use Rattle.rows.specs.Families.{Families};
 ghost use Rattle.rows.specs.Programs.{Bodies, IsLeastOfAll, SolvesAll};
 ghost use Rattle.rows.specs.Orders.{CoreFacts, Reached, Resets, Tasks, TasksFacts};
+ghost use Rattle.rows.specs.Numberings.{Numbering, renamed_bodies, renamed_state, renamed_trees};
 ghost use Rattle.rows.specs.Cores.{CoreState, CoreStep, IsClosed, IsReached, IsReady, IsStart, StateFacts, reset};
 
 /// A core without files has the facts.
@@ -42,4 +43,13 @@ pub fn settled_is_least()
 /// A set that is closed by lists of callees and by cells may be reset.
 pub fn closed_sets_reset()
     ensures { (old new : Bodies) (R : ℕ → Bool) (M : Families) → IsClosed old new R M → Resets old new R M (reset R M) }
+{}
+
+/// The numbers of callables do not matter: for other numbers, each callable's own, the least solution of the renamed program is
+/// the renamed least solution, and what is reached by takings, results and edits is renamed. So the numbers of callables may
+/// stay while others come and go.
+pub fn numbers_do_not_matter()
+    ensures least { (n : Numbering) (bodies : Bodies) (M : Families) → IsLeastOfAll bodies M → IsLeastOfAll (renamed_bodies n bodies) (renamed_trees n M) }
+    ensures back { (n : Numbering) (bodies : Bodies) (N : Families) → IsLeastOfAll (renamed_bodies n bodies) N → IsLeastOfAll bodies (λ g p. N (n.number g) p) }
+    ensures reached { (n : Numbering) (s : CoreState) → IsReached s → IsReached (renamed_state n s) }
 {}

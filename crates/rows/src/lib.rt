@@ -68,8 +68,8 @@ mod told;
 mod values;
 
 pub use cores::{
-    closed_sets_reset, each_step_keeps, reached_below, reached_keeps, settled_is_least,
-    the_start_has_the_facts,
+    closed_sets_reset, each_step_keeps, numbers_do_not_matter, reached_below, reached_keeps,
+    settled_is_least, the_start_has_the_facts,
 };
 pub use gathering::{carried, through, wanted};
 pub use inequalities::{Moves, Right, Row};
